@@ -1,0 +1,4 @@
+pub mod Refusals
+pub mod Frame
+pub mod Numbers
+pub mod Procedures

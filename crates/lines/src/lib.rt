@@ -1,0 +1,2 @@
+// Lines: where frames wait on their way out.
+pub mod line;
