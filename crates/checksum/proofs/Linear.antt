@@ -9,7 +9,7 @@ use native.Mathlib.Omega.{arith}
 use lib.Bits.{bitXor, xor-assoc, xor-self, xor-zero-l, xor-zero-r, xor-shifted, xor-block}
 use Rattle.std.proofs.shelf.Bits.{pow-pos, pow-add, pow-below, xor-lt, xor-comm, mod-pow-add, mod-below}
 use Rattle.std.proofs.shelf.Tests.{cases-lt}
-use Rattle.checksum.specs.Division.{bitsOf, octetBits, reduced, remainder, parity, Checks, headerSum, payloadSum}
+use Rattle.checksum.specs.Division.{bitsOf, octetBits, reduced, remainder, parity, Checks, parityOf}
 use lib.Dec.{lit<, lit≤}
 use Rattle.checksum.proofs.Reduced.{keeps, takes, xor-low, xor-high, xor-wide, reduced-below, digit-below}
 
@@ -216,10 +216,10 @@ module _ (w g : ℕ) (pos : 1 ≤ w) (lg : 2 ^ w ≤ g) (hg : g < 2 * 2 ^ w) whe
       (reduced-below w g (bitXor (s * 2) (b * 2 ^ w)) lg hg (xor-wide w (s * 2) (b * 2 ^ w) (omega arith) (digit-below b (2 ^ w) (h .0) (pow-pos w)))) (h .1)
 
 -- what other crates cite
-pub payload-below : (os : List ℕ) → payloadSum os < 1024
-unfolding payloadSum
+pub payload-below : (os : List ℕ) → parityOf 10 0x633 os < 1024
+unfolding parityOf
 payload-below os = parity-below 10 0x633 (lit≤ tt) (lit≤ tt) (lit< tt) 0 (octetBits os) (lit< tt) (bits-octets os)
 
-pub header-below : (a b : ℕ) → headerSum a b < 64
-unfolding headerSum
+pub header-below : (a b : ℕ) → parityOf 6 0x6f (a ∷ b ∷ []) < 64
+unfolding parityOf
 header-below a b = parity-below 6 0x6f (lit≤ tt) (lit≤ tt) (lit< tt) 0 (octetBits (a ∷ b ∷ [])) (lit< tt) (bits-octets (a ∷ b ∷ []))

@@ -1,9 +1,10 @@
+// The two checksums of a frame, bit by bit: the highest bit of the first octet first.
 ghost use mathlib.Core.Path.{_≡_};
 ghost use Prim.Native.Nat.{ℕ, _+_, _-_, _*_, _/_, _%_, _^_, _<_, _≤_};
 ghost use lib.ListN.{length, getD};
 ghost use lib.Bits.{bitXor};
 ghost use mathlib.Core.List.{[], _∷_};
-ghost use Rattle.checksum.specs.Division.{bitsOf, octetBits, reduced, parity, Checks, headerSum, payloadSum};
+ghost use Rattle.checksum.specs.Division.{bitsOf, octetBits, reduced, parity, parityOf, Checks, headerSum, payloadSum};
 
 // The parity after one bit more.
 fn with_bit(sum: u16, bit: u16, width: u32, generator: u16) -> u16
@@ -30,37 +31,40 @@ fn with_octet(sum: u16, octet: u8, width: u32, generator: u16) -> u16
     ensures is { λ r. ⌜ r ≡ parity width generator sum (bitsOf 8 octet) ⌝ }
     ensures small { λ r. ⌜ r < 2 ^ width ⌝ }
 {
-    let mut s = sum;
-    for k in (0..8u32).rev() {
-        let bit = (octet >> k & 1) as u16;
-        s = with_bit(s, bit, width, generator);
+    let mut sum = sum;
+    for place in (0..8u32).rev() {
+        let bit = (octet >> place & 1) as u16;
+        sum = with_bit(sum, bit, width, generator);
     }
-    s
+    sum
 }
 
-// The parity of octets.
+// The checksum of octets, with the law that makes it one.
 fn of_octets(octets: &[u8], width: u32, generator: u16) -> u16
     requires degree { ⌜ (1 ≤ width) × (width ≤ 10) ⌝ }
     requires generator { ⌜ (2 ^ width ≤ generator) × (generator < 2 * 2 ^ width) ⌝ }
-    ensures is { λ r. ⌜ r ≡ parity width generator 0 (octetBits (now (octets .entry))) ⌝ }
+    ensures is { λ r. ⌜ r ≡ parityOf width generator (now (octets .entry)) ⌝ }
+    ensures law { λ r. ⌜ Checks width generator (octetBits (now (octets .entry))) r ⌝ }
     ensures small { λ r. ⌜ r < 2 ^ width ⌝ }
 {
-    let mut s = 0;
+    let mut sum = 0;
     for octet in octets {
-        s = with_octet(s, *octet, width, generator);
+        sum = with_octet(sum, *octet, width, generator);
     }
-    s
+    sum
 }
 
+// D^6 + D^5 + D^3 + D^2 + D + 1
 const HEADER_WIDTH: u32 = 6;
 
-const HEADER_GENERATOR: u16 = 0x6F;
+const HEADER_GENERATOR: u16 = 0b110_1111;
 
+// D^10 + D^9 + D^5 + D^4 + D + 1
 const PAYLOAD_WIDTH: u32 = 10;
 
-const PAYLOAD_GENERATOR: u16 = 0x633;
+const PAYLOAD_GENERATOR: u16 = 0b110_0011_0011;
 
-// The header checksum of the first two octets of a frame.
+// The header checksum, over the first two octets of a frame: with it they leave no remainder, and with no other of six bits.
 pub fn header_checksum(first: u8, second: u8) -> u8
     ensures is { λ r. ⌜ r ≡ headerSum first second ⌝ }
     ensures law { λ r. ⌜ Checks 6 0x6f (octetBits (first ∷ second ∷ [])) r ⌝ }
@@ -69,7 +73,7 @@ pub fn header_checksum(first: u8, second: u8) -> u8
     of_octets(&[first, second], HEADER_WIDTH, HEADER_GENERATOR) as u8
 }
 
-// The payload checksum of the whole payload.
+// The payload checksum, over the whole payload: with it the payload leaves no remainder, and with no other of ten bits.
 pub fn payload_checksum(octets: &[u8]) -> u16
     ensures is { λ r. ⌜ r ≡ payloadSum (now (octets .entry)) ⌝ }
     ensures law { λ r. ⌜ Checks 10 0x633 (octetBits (now (octets .entry))) r ⌝ }

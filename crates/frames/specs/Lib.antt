@@ -2,3 +2,4 @@ pub mod Refusals
 pub mod Frame
 pub mod Numbers
 pub mod Procedures
+pub mod Headers

@@ -1,5 +1,6 @@
 // Frames of the Iu user plane: why one is refused, its octets by value, its header, what it says, and how it is built.
 mod counting;
+pub mod header;
 mod holding;
 pub mod number;
 pub mod octets;
