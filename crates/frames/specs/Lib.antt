@@ -3,3 +3,4 @@ pub mod Frame
 pub mod Numbers
 pub mod Procedures
 pub mod Headers
+pub mod Hex
