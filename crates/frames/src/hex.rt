@@ -4,6 +4,8 @@ ghost use mathlib.Core.Bool.{true};
 ghost use mathlib.Core.List.{_++_};
 ghost use Prim.Native.Nat.{ℕ, _+_, _*_, _/_, _%_, _<_, _≤_};
 ghost use lib.ListN.{length, drop};
+ghost use Rattle.std.specs.Vec.{made};
+ghost use Rattle.frames.specs.Frame.{longest};
 ghost use Rattle.frames.specs.Hex.{isDigit, valueOf, allDigits, octetsIn, hexIn, counted, filled};
 use crate::octets::LONGEST;
 use crate::refusal::Refusal;
@@ -57,6 +59,7 @@ fn fill(digits: &[u8], out: &mut [u8; 512])
 pub fn read_hex(line: &[u8], out: &mut [u8; 512]) -> Result<usize, Refusal>
     ensures answer { λ r. ⌜ r ≡ counted (hexIn (now (line .entry))) ⌝ }
     ensures out { λ _. ⌜ now (out .exit) ≡ filled (hexIn (now (line .entry))) (now (out .entry)) ⌝ }
+    ensures few { λ r. ⌜ made r (λ n. n ≤ longest) ⌝ }
 {
     if !all_digits(line) || line.len() % 2 != 0 {
         return Err(Refusal::Hexadecimal);
