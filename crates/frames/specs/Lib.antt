@@ -4,3 +4,4 @@ pub mod Numbers
 pub mod Procedures
 pub mod Headers
 pub mod Hex
+pub mod Joined

@@ -3,6 +3,7 @@ mod counting;
 pub mod header;
 pub mod hex;
 mod holding;
+mod joining;
 pub mod number;
 pub mod octets;
 pub mod procedure;
