@@ -5,3 +5,5 @@ pub mod Procedures
 pub mod Headers
 pub mod Hex
 pub mod Joined
+pub mod Distances
+pub mod Values
