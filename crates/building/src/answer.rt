@@ -18,9 +18,5 @@ pub fn build_ack(procedure: Procedure, number: Number) -> Octets
 pub fn build_nack(procedure: Procedure, number: Number, cause: Cause) -> Octets
     ensures { λ r. ⌜ octetsOf r ≡ nackFrame (codeOf procedure) (number .value) (cause .value) ⌝ }
 {
-    unchecked(
-        0xE8 + number.value,
-        procedure.code(),
-        &[cause.value << 2],
-    )
+    unchecked(0xE8 + number.value, procedure.code(), &[cause.value << 2])
 }

@@ -1,3 +1,6 @@
 // Frames built into values: the header with its checksums, and the payload after it.
+pub mod answer;
 mod layout;
+mod padding;
 pub mod question;
+pub mod user_data;

@@ -7,3 +7,4 @@ pub mod Hex
 pub mod Joined
 pub mod Distances
 pub mod Values
+pub mod DataTypes
