@@ -3,4 +3,5 @@ pub mod answer;
 mod layout;
 mod padding;
 pub mod question;
+pub mod rate;
 pub mod user_data;

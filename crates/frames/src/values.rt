@@ -1,5 +1,7 @@
 // Values that fit their fields: made, refused where they do not fit, and told.
 ghost use mathlib.Core.Path.{_≡_};
+ghost use Prim.Native.Nat.{_≤_};
+ghost use lib.ListN.{length};
 ghost use Rattle.frames.specs.Values.{asCause, causeIn, asShift, shiftOf, shiftBy, octetOf, asMarks, marksIn, marksOf};
 use crate::cause::Cause;
 use crate::mask::MOST_MARKS;
@@ -71,7 +73,8 @@ impl RateMask {
     }
 
     pub fn marks(&self) -> &[bool]
-        ensures { λ r. ⌜ now r ≡ marksOf (now (self .entry)) ⌝ }
+        ensures marks { λ r. ⌜ now r ≡ marksOf (now (self .entry)) ⌝ }
+        ensures few { λ r. ⌜ length (now r) ≤ 63 ⌝ }
     {
         &self.bars[0..self.count]
     }
