@@ -3,6 +3,7 @@ pub mod cause;
 mod counting;
 pub mod data_type;
 pub mod distance;
+pub mod extent;
 pub mod frame;
 pub mod header;
 pub mod hex;
