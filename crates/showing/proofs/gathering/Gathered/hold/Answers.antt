@@ -10,11 +10,11 @@ use Rattle.std.proofs.shelf.Lists.{length-push}
 use Rattle.frames.specs.Hex.{allDigits, isDigit}
 use Rattle.showing.specs.Shown.{cappedAt}
 use Rattle.showing.proofs.Holding.{capped-low, capped-next, capped-over, digits-push, keeps-one, keeps-full}
-use Rattle.showing.proofs.gathering.Gathered.push.Needs as need
-use Rattle.showing.proofs.gathering.Gathered.push.Needs.{then-count-lt-KEPT, else-count-lt-KEPT}
+use Rattle.showing.proofs.gathering.Gathered.hold.Needs as need
+use Rattle.showing.proofs.gathering.Gathered.hold.Needs.{then-count-lt-KEPT, else-count-lt-KEPT}
 
 pub returns : need.returns
-returns c line h =
+returns c line t h =
     let w : length (c .args .self .now .kept) ≡ 1024 = search needs in
     let b = c .args .byte in
     let l : length (line ++ b ∷ []) ≡ length line + 1 = length-push line b in
@@ -24,10 +24,9 @@ returns c line h =
     let f : cond (ltb (c .args .self .now .count) 1026) (c .args .self .now .count + 1) 1025 ≡ cond (ltb (cappedAt (length line)) 1026) (cappedAt (length line) + 1) 1025 =
     ap (λ (m : ℕ). cond (ltb m 1026) (m + 1) 1025) e in
     let d = h .digits in
-    let t = c .is-digit .ensures in
     record {
       count = c .one-more-self .ensures ∙ f ∙ n ∙ ap cappedAt (sym l);
-      digits = ap (λ (x : Bool). x && c .is-digit .result) d ∙ ap (λ (x : Bool). allDigits line && x) t ∙ sym p;
+      digits = ap (λ (x : Bool). x && c .args .digit) d ∙ ap (λ (x : Bool). allDigits line && x) t ∙ sym p;
       kept = elim (c .if-count-lt-KEPT .came) [
         | then-count-lt-KEPT v ↦
             let low : cappedAt (length line) ≡ length line = capped-low (length line) (omega (arith, e, v .if-count-lt-KEPT .taken)) in
