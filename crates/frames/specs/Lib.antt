@@ -4,3 +4,7 @@ pub mod Numbers
 pub mod Procedures
 pub mod Headers
 pub mod Hex
+pub mod Joined
+pub mod Distances
+pub mod Values
+pub mod DataTypes

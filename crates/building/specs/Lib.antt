@@ -1,0 +1,3 @@
+pub mod Building
+pub mod UserData
+pub mod Rates
