@@ -77,3 +77,12 @@ handedIn (over k c ∷ hs) = handedIn hs
 handedIn (delivered d ∷ hs) = handedIn hs
 handedIn (handed f ∷ hs) = f ∷ handedIn hs
 handedIn (refused f ∷ hs) = handedIn hs
+
+-- the user data that is named as delivered
+abbrev pub deliveredIn : List Happening → List Brought
+deliveredIn [] = []
+deliveredIn (began k ∷ hs) = deliveredIn hs
+deliveredIn (over k c ∷ hs) = deliveredIn hs
+deliveredIn (delivered d ∷ hs) = d ∷ deliveredIn hs
+deliveredIn (handed f ∷ hs) = deliveredIn hs
+deliveredIn (refused f ∷ hs) = deliveredIn hs
