@@ -24,6 +24,13 @@ impl<L: Line> Sender<L> {
         ensures line { λ r. ⌜ r .line ≡ line ⌝ }
         ensures runs { λ r. ⌜ Conserves (L·Line .waiting) (L·Line .takes) (r .line) ⌝ }
     {
+        Sender::over(line)
+    }
+
+    fn over(line: L) -> Sender<L>
+        ensures line { λ r. ⌜ r .line ≡ line ⌝ }
+        ensures runs { λ r. ⌜ Conserves (L·Line .waiting) (L·Line .takes) (r .line) ⌝ }
+    {
         Sender { line }
     }
 
