@@ -8,3 +8,4 @@ pub mod Joined
 pub mod Distances
 pub mod Values
 pub mod DataTypes
+pub mod Contents

@@ -1,6 +1,7 @@
 // The control procedures, by the number that a control frame bears.
 ghost use mathlib.Core.Path.{_≡_};
-ghost use Rattle.frames.specs.Procedures.{codeOf};
+ghost use Rattle.frames.specs.Procedures.{codeOf, procedureIn};
+use crate::refusal::Refusal;
 
 #[derive(Clone, Copy)]
 pub enum Procedure {
@@ -19,6 +20,19 @@ impl Procedure {
             Procedure::RateControl => 1,
             Procedure::TimeAlignment => 2,
             Procedure::ErrorEvent => 3,
+        }
+    }
+
+    // The numbers over 3 are reserved.
+    pub fn of_code(code: u8) -> Result<Procedure, Refusal>
+        ensures { λ r. ⌜ r ≡ procedureIn code ⌝ }
+    {
+        match code {
+            0 => Ok(Procedure::Initialisation),
+            1 => Ok(Procedure::RateControl),
+            2 => Ok(Procedure::TimeAlignment),
+            3 => Ok(Procedure::ErrorEvent),
+            _ => Err(Refusal::Procedure),
         }
     }
 }

@@ -1,0 +1,12 @@
+use borrow.Author.Needs.{needs}
+use Rattle.std.proofs.shelf.Lists.{take-rest}
+use Rattle.frames.proofs.reading.read_control.Needs as need
+
+pub returns-in-0 : need.returns-in-0
+returns-in-0 c = simp take-rest (search needs)
+
+pub returns-in-1 : need.returns-in-1
+returns-in-1 c = simp take-rest (search needs)
+
+pub returns-in-rest-kind : need.returns-in-rest-kind
+returns-in-rest-kind c = simp take-rest (search needs)
