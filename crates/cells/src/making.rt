@@ -1,15 +1,15 @@
 // A line is made of a checked count, and is empty.
 ghost use mathlib.Core.Path.{_≡_};
 ghost use mathlib.Core.List.{[]};
-ghost use Rattle.cells.specs.Held.{held};
+ghost use Rattle.cells.specs.Waiting.{sizeOf, waitingIn};
 use crate::cells::Cells;
 use crate::count::CellCount;
 use crate::store::Store;
 
 impl Cells {
     pub fn new(count: CellCount) -> Cells
-        ensures waits { λ r. ⌜ held (r .store) ≡ [] ⌝ }
-        ensures size { λ r. ⌜ r .store .size ≡ count .count ⌝ }
+        ensures waiting { λ r. ⌜ waitingIn r ≡ [] ⌝ }
+        ensures size { λ r. ⌜ sizeOf r ≡ count .count ⌝ }
     {
         Cells {
             store: Store::empty(count.count),

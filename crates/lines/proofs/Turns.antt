@@ -1,4 +1,4 @@
--- What a write behind a window, and a step of its head, leave. Assumes nothing.
+-- What a write behind a window, and a step of its head, leave.
 use mathlib.Core.Path.{_≡_, refl, sym, ap, _∙_, subst}
 use mathlib.Core.Bool.{cond, true, false}
 use mathlib.Core.Logic.{_⊎_, inl, inr, _≢_, ⊎-elim}
@@ -6,7 +6,7 @@ use mathlib.Core.List.{List, [], _∷_, _++_}
 use Prim.Native.Nat.{ℕ, zero, suc, _+_, _-_, _<_, _≤_}
 use native.Mathlib.Omega.{arith}
 use lib.Dec.{ltb}
-use lib.ListN.{getD, set, length}
+use lib.ListN.{getD, set, length, take, drop}
 use Rattle.std.proofs.shelf.Lists.{getD-set-same, getD-set-other, ext-getD, getD-append-left, getD-append-right, length-append}
 use Rattle.std.proofs.shelf.Tests.{cases-lt}
 use Rattle.std.proofs.shelf.Ways.{tells}
@@ -89,3 +89,30 @@ window-puts d xs ys w size head n h l old new =
     let is : n + (i - n) ≡ i = omega arith in
     ap (λ j. getD ys (place size head j) d) (sym is) ∙ new (i - n) (omega arith) ∙ sym (getD-append-right (window d xs size head n) w n i d short above))
     (cases-lt i n))
+
+-- the first k items
+pub window-front : {X : Type 0} (d : X) (xs : List X) (size head n k : ℕ) → k ≤ n → take k (window d xs size head n) ≡ window d xs size head k
+window-front d xs size head n zero l = refl
+window-front d xs size head zero (suc k) l = absurd (omega arith)
+window-front d xs size head (suc n) (suc k) l = ap (λ w. getD xs head d ∷ w) (window-front d xs size (place size head 1) n k (omega arith))
+
+-- those behind them
+pub window-behind : {X : Type 0} (d : X) (xs : List X) (size head n k : ℕ) → head < size → n ≤ size → k ≤ n → drop k (window d xs size head n) ≡ window d xs size (place size head k) (n - k)
+window-behind d xs size head n zero h m l =
+    let whole : n - 0 ≡ n = omega arith in
+    ap (λ p. window d xs size p n) (sym (place-0 size head h)) ∙ ap (window d xs size (place size head 0)) (sym whole)
+window-behind d xs size head zero (suc k) h m l = absurd (omega arith)
+window-behind d xs size head (suc n) (suc k) h m l =
+    let fewer : suc n - suc k ≡ n - k = omega arith in
+    window-behind d xs size (place size head 1) n k (place-below size head 1 h (omega arith)) (omega arith) (omega arith)
+    ∙ ap (λ p. window d xs size p (n - k)) (place-more size head k h (omega arith))
+    ∙ ap (window d xs size (place size head (suc k))) (sym fewer)
+
+-- a list that has, place by place, the items from `head` on
+pub window-is : {X : Type 0} (d : X) (xs w : List X) (size head : ℕ) → head < size → length w ≤ size
+    → ((k : ℕ) → k < length w → getD w k d ≡ getD xs (place size head k) d)
+    → window d xs size head (length w) ≡ w
+window-is d xs w size head h l same =
+    let long = length-window d xs size head (length w) in
+    ext-getD d (window d xs size head (length w)) w long
+    (λ k i. getD-window d xs size head (length w) k h l (omega arith) ∙ sym (same k (omega arith)))
