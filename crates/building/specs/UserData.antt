@@ -10,12 +10,9 @@ use Rattle.frames.specs.declared.«data_type».DataType.{DataType}
 use Rattle.frames.specs.declared.«data_type».DataType.the-variants.{Checked, Plain}
 use Rattle.frames.specs.declared.refusal.Refusal.{Refusal}
 use Rattle.frames.specs.declared.refusal.Refusal.the-variants.{ValueRange, OctetCount}
+use Rattle.frames.specs.Rounded.{octetsFor}
 use Rattle.frames.specs.Joined.{fitting}
 use Rattle.building.specs.Building.{framed, plain}
-
--- the least number of octets that holds some bits
-abbrev pub octetsFor : ℕ → ℕ
-octetsFor bits = (bits + 7) / 8
 
 -- the high bits of an octet, with zeros after them
 abbrev pub highBits : ℕ → ℕ → ℕ

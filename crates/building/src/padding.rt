@@ -3,20 +3,10 @@ ghost use mathlib.Core.Path.{_≡_};
 ghost use Prim.Native.Nat.{_+_, _/_, _%_, _<_};
 ghost use lib.ListN.{length};
 ghost use Rattle.frames.specs.Joined.{held, fitting};
-ghost use Rattle.building.specs.UserData.{octetsFor, highBits, padded};
+ghost use Rattle.frames.specs.Rounded.{octetsFor};
+ghost use Rattle.building.specs.UserData.{highBits, padded};
 use frames::octets::Octets;
 use frames::refusal::Refusal;
-
-// The least number of octets that holds some bits.
-pub(crate) fn octets_for(bits: usize) -> usize
-    ensures { λ r. ⌜ r ≡ octetsFor bits ⌝ }
-{
-    if bits % 8 == 0 {
-        bits / 8
-    } else {
-        bits / 8 + 1
-    }
-}
 
 fn high_bits(count: u32, octet: u8) -> u8
     requires { ⌜ (0 < count) × (count < 8) ⌝ }

@@ -23,14 +23,16 @@ module _ {Q : Type 0} (f : Form Q) (proper : Proper f) (t n : ℕ) (low : 1 ≤ 
       (lt, subst (λ x. Booked t n (watched (Some (begun t q m))) (entered (opened ∷ announced ∷ x) blank)) (sym (asking f proper takes t n (f .kind) (begun t q m) lt ∙ own (asked m ∷ []))) (moved t n blank low (begins refl refl) (blank-idle t n)))
   stands (ticks {ms} {b} takes c) =
       let h = stands c in
-      let g = ticking f proper takes t n b (h .0) in
-      (g .asks,
-      rw (entered-++ ms, g .says (f .kind), own) (moved t n (entered ms blank) low (g .move) (h .1)))
+      let g = ticking f proper takes t n b (h .0) in (
+        g .asks,
+        rw (entered-++ ms, g .says (f .kind), own) (moved t n (entered ms blank) low (g .move) (h .1)),
+      )
   stands (hears {ms} {b} takes reply number c) =
       let h = stands c in
-      let g = hearing f proper takes t n reply number b (h .0) in
-      (g .asks,
-      rw (entered-++ ms, g .says (f .kind), own) (moved t n (entered ms blank) low (g .move) (h .1)))
+      let g = hearing f proper takes t n reply number b (h .0) in (
+        g .asks,
+        rw (entered-++ ms, g .says (f .kind), own) (moved t n (entered ms blank) low (g .move) (h .1)),
+      )
 
   pub courses-hold : CoursesHold f t n (begun t q m)
   courses-hold ms o c = kept t n (watched o) (entered ms blank) (stands c .1)

@@ -107,35 +107,69 @@ abbrev pub waitOn : Option ℕ → Books → Books
 waitOn None b = b
 waitOn (Some x) b =
     record {
-      started = b .started; announcements = b .announcements; ended = b .ended; running = b .running;
-      sent = b .sent; number = b .number; waits = b .waits + 1; most = b .most; longest = max (b .longest) (b .waits + 1);
+      started = b .started;
+      announcements = b .announcements;
+      ended = b .ended;
+      running = b .running;
+      sent = b .sent;
+      number = b .number;
+      waits = b .waits + 1;
+      most = b .most;
+      longest = max (b .longest) (b .waits + 1);
       faults = b .faults;
     }
 
 abbrev pub enter : Mark → Books → Books
 enter opened b =
     record {
-      started = b .started + 1; announcements = b .announcements; ended = b .ended; running = b .running + 1;
-      sent = []; number = None; waits = 0; most = b .most; longest = b .longest;
+      started = b .started + 1;
+      announcements = b .announcements;
+      ended = b .ended;
+      running = b .running + 1;
+      sent = [];
+      number = None;
+      waits = 0;
+      most = b .most;
+      longest = b .longest;
       faults = b .faults + cond (eqb (b .running) 0) 0 1;
     }
 enter announced b =
     record {
-      started = b .started; announcements = b .announcements + 1; ended = b .ended; running = b .running;
-      sent = b .sent; number = b .number; waits = b .waits; most = b .most; longest = b .longest;
+      started = b .started;
+      announcements = b .announcements + 1;
+      ended = b .ended;
+      running = b .running;
+      sent = b .sent;
+      number = b .number;
+      waits = b .waits;
+      most = b .most;
+      longest = b .longest;
       faults = b .faults;
     }
 enter closed b =
     record {
-      started = b .started; announcements = b .announcements; ended = b .ended + 1; running = b .running - 1;
-      sent = b .sent; number = None; waits = 0; most = b .most; longest = b .longest;
+      started = b .started;
+      announcements = b .announcements;
+      ended = b .ended + 1;
+      running = b .running - 1;
+      sent = b .sent;
+      number = None;
+      waits = 0;
+      most = b .most;
+      longest = b .longest;
       faults = b .faults + cond (eqb (b .running) 0) 1 0;
     }
 enter (asked m) b =
     record {
-      started = b .started; announcements = b .announcements; ended = b .ended; running = b .running;
-      sent = m ∷ b .sent; number = Some m; waits = waitsOn m (b .number) (b .waits);
-      most = max (b .most) (count m (m ∷ b .sent)); longest = b .longest;
+      started = b .started;
+      announcements = b .announcements;
+      ended = b .ended;
+      running = b .running;
+      sent = m ∷ b .sent;
+      number = Some m;
+      waits = waitsOn m (b .number) (b .waits);
+      most = max (b .most) (count m (m ∷ b .sent));
+      longest = b .longest;
       faults = b .faults + cond (eqb (b .running) 0) 1 0;
     }
 enter waited b = waitOn (b .number) b

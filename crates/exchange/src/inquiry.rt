@@ -15,15 +15,18 @@ use reports::ending::Kind;
 // A kind of question names its procedure, its frames and the form of its answer.
 pub trait Inquiry: Copy {
     const PROCEDURE: u8;
+
     type Answer;
 
     // The kind, the frame for each number, whether a further frame follows, what an answer leads to, and how it fails.
     ghost form: { Form Self };
     // An answer in this kind's form, and what it leads to.
     ghost reads: { Reply → Self·Answer };
+
     ghost turns: { Self·Answer → Turn };
 
     law judged: { (r : Reply) → turns (reads r) ≡ form .turn r };
+
     law proper: { Proper form };
 
     fn kind() -> Kind

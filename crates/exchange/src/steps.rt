@@ -26,7 +26,13 @@ impl<Q: Inquiry> Exchange<Q> {
     }
 
     // Sends the present frame again, or ends.
-    fn repeat<L: Line>(self, limits: Limits, ending: Ending, line: &mut L, report: &mut Report) -> Option<Exchange<Q>>
+    fn repeat<L: Line>(
+        self,
+        limits: Limits,
+        ending: Ending,
+        line: &mut L,
+        report: &mut Report,
+    ) -> Option<Exchange<Q>>
         ensures { λ r. ⌜ Came (L·Line .waiting) (again (Q·Inquiry .form) (L·Line .takes (now (line .entry))) (limits .ticks) (limits .repeats) ending self) r (now (line .entry)) (now (line .exit)) (now (report .entry)) (now (report .exit)) ⌝ }
     {
         if self.repeats < limits.repeats {
@@ -44,7 +50,12 @@ impl<Q: Inquiry> Exchange<Q> {
     }
 
     // One tick.
-    pub fn tick<L: Line>(self, limits: Limits, line: &mut L, report: &mut Report) -> Option<Exchange<Q>>
+    pub fn tick<L: Line>(
+        self,
+        limits: Limits,
+        line: &mut L,
+        report: &mut Report,
+    ) -> Option<Exchange<Q>>
         ensures { λ r. ⌜ Came (L·Line .waiting) (ticked (Q·Inquiry .form) (L·Line .takes (now (line .entry))) (limits .ticks) (limits .repeats) self) r (now (line .entry)) (now (line .exit)) (now (report .entry)) (now (report .exit)) ⌝ }
     {
         if self.ticks > 1 {
@@ -59,7 +70,13 @@ impl<Q: Inquiry> Exchange<Q> {
     }
 
     // An answer to the present frame.
-    fn answer<L: Line>(self, reply: Reply, limits: Limits, line: &mut L, report: &mut Report) -> Option<Exchange<Q>>
+    fn answer<L: Line>(
+        self,
+        reply: Reply,
+        limits: Limits,
+        line: &mut L,
+        report: &mut Report,
+    ) -> Option<Exchange<Q>>
         ensures { λ r. ⌜ Came (L·Line .waiting) (turned (Q·Inquiry .form) (L·Line .takes (now (line .entry))) (limits .ticks) (limits .repeats) (Q·Inquiry .form .turn reply) self) r (now (line .entry)) (now (line .exit)) (now (report .entry)) (now (report .exit)) ⌝ }
     {
         match Q::turn(Q::read(reply)) {
@@ -73,7 +90,12 @@ impl<Q: Inquiry> Exchange<Q> {
     }
 
     // The next frame, or the end.
-    fn go_on<L: Line>(self, limits: Limits, line: &mut L, report: &mut Report) -> Option<Exchange<Q>>
+    fn go_on<L: Line>(
+        self,
+        limits: Limits,
+        line: &mut L,
+        report: &mut Report,
+    ) -> Option<Exchange<Q>>
         ensures { λ r. ⌜ Came (L·Line .waiting) (turned (Q·Inquiry .form) (L·Line .takes (now (line .entry))) (limits .ticks) (limits .repeats) Turn.Onward self) r (now (line .entry)) (now (line .exit)) (now (report .entry)) (now (report .exit)) ⌝ }
     {
         if self.question.more(self.number) {
@@ -91,7 +113,14 @@ impl<Q: Inquiry> Exchange<Q> {
     }
 
     // An answer with a number. One with another number than the present frame's changes nothing, not even the ticks.
-    pub fn hear<L: Line>(self, reply: Reply, number: u8, limits: Limits, line: &mut L, report: &mut Report) -> Heard<Q>
+    pub fn hear<L: Line>(
+        self,
+        reply: Reply,
+        number: u8,
+        limits: Limits,
+        line: &mut L,
+        report: &mut Report,
+    ) -> Heard<Q>
         ensures came { λ r. ⌜ Came (L·Line .waiting) (heard (Q·Inquiry .form) (L·Line .takes (now (line .entry))) (limits .ticks) (limits .repeats) reply number self .outcome) (r .next) (now (line .entry)) (now (line .exit)) (now (report .entry)) (now (report .exit)) ⌝ }
         ensures answer { λ r. ⌜ r .answer ≡ heard (Q·Inquiry .form) (L·Line .takes (now (line .entry))) (limits .ticks) (limits .repeats) reply number self .answer ⌝ }
     {

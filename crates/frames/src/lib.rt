@@ -14,5 +14,6 @@ pub mod octets;
 pub mod procedure;
 pub mod reading;
 pub mod refusal;
+pub mod rounding;
 pub mod shift;
 mod values;

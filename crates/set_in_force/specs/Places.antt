@@ -7,10 +7,6 @@ use Rattle.std.specs.declared.option.Option.the-variants.{Some, None}
 use Rattle.set_in_force.specs.declared.place.Place.{Place}
 use Rattle.set_in_force.specs.declared.place.Places.{Places}
 
--- the least number of octets that hold bits
-abbrev pub octetsHolding : ℕ → ℕ
-octetsHolding b = (b + 7) / 8
-
 -- the first bit and the length of each subflow: one begins where the one before it ends
 unfoldable pub placesFrom : ℕ → List ℕ → List Place
 placesFrom at [] = []

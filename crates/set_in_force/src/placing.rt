@@ -3,18 +3,9 @@ ghost use mathlib.Core.Path.{_≡_};
 ghost use Prim.Native.Nat.{_+_, _*_, _≤_, _<_};
 ghost use lib.ListN.{length};
 ghost use Rattle.sets.specs.Rows.{bits};
-ghost use Rattle.set_in_force.specs.Places.{octetsHolding, placesFrom, placesIn, item};
+ghost use Rattle.set_in_force.specs.Places.{placesFrom, placesIn, item};
 use super::place::Place;
 use super::place::Places;
-
-// The octets that hold this many bits: no fewer do.
-pub fn octets_of(bits: u16) -> u16
-    ensures is { λ r. ⌜ r ≡ octetsHolding bits ⌝ }
-    ensures holds { λ r. ⌜ bits ≤ 8 * r ⌝ }
-    ensures least { λ r. ⌜ 8 * r < bits + 8 ⌝ }
-{
-    bits / 8 + if bits % 8 == 0 { 0 } else { 1 }
-}
 
 // The places of the subflows of these sizes.
 pub(crate) fn place_all(sizes: &[u16]) -> Places
