@@ -4,7 +4,7 @@ use mathlib.Core.Bool.{Bool, true, false, cond}
 use Prim.Native.Nat.{ℕ, zero, suc, _+_, _*_}
 use lib.ListN.{length, getD, drop}
 use Rattle.building.specs.Building.{questionFrame}
-use Rattle.frames.specs.Rounded.{octetsFor}
+use Rattle.frames.specs.Extent.{octetsFor}
 
 -- 1 bars, 0 allows; past the last mark is padding
 abbrev pub mark : List Bool → ℕ → ℕ

@@ -10,7 +10,7 @@ use Rattle.frames.specs.declared.«data_type».DataType.{DataType}
 use Rattle.frames.specs.declared.«data_type».DataType.the-variants.{Checked, Plain}
 use Rattle.frames.specs.declared.refusal.Refusal.{Refusal}
 use Rattle.frames.specs.declared.refusal.Refusal.the-variants.{ValueRange, OctetCount}
-use Rattle.frames.specs.Rounded.{octetsFor}
+use Rattle.frames.specs.Extent.{octetsFor}
 use Rattle.frames.specs.Joined.{fitting}
 use Rattle.building.specs.Building.{framed, plain}
 

@@ -3,7 +3,7 @@ ghost use mathlib.Core.Path.{_≡_};
 ghost use Prim.Native.Nat.{_+_, _/_, _%_, _<_};
 ghost use lib.ListN.{length};
 ghost use Rattle.frames.specs.Joined.{held, fitting};
-ghost use Rattle.frames.specs.Rounded.{octetsFor};
+ghost use Rattle.frames.specs.Extent.{octetsFor};
 ghost use Rattle.building.specs.UserData.{highBits, padded};
 use frames::octets::Octets;
 use frames::refusal::Refusal;

@@ -5,14 +5,14 @@ ghost use Prim.Native.Nat.{_+_, _*_, _/_, _≤_, _<_};
 ghost use lib.ListN.{length, getD, take, drop};
 ghost use Rattle.frames.specs.Frame.{octetsOf};
 ghost use Rattle.frames.specs.Values.{marksOf};
-ghost use Rattle.frames.specs.Rounded.{octetsFor};
+ghost use Rattle.frames.specs.Extent.{octetsFor};
 ghost use Rattle.building.specs.Rates.{mark, markOctet, markOctets, ratePayload, rateFrame};
 use crate::layout::certain;
+use frames::extent::octets_for;
 use frames::mask::RateMask;
 use frames::number::Number;
 use frames::octets::Octets;
 use frames::procedure::Procedure;
-use frames::rounding::octets_for;
 
 // What a mark adds to its octet: nothing where it allows, or past the last one.
 fn worth(bars: &[bool], place: usize, weight: u8) -> u8

@@ -3,15 +3,15 @@ ghost use mathlib.Core.Path.{_≡_};
 ghost use Prim.Native.Nat.{_≤_};
 ghost use lib.ListN.{length};
 ghost use Rattle.frames.specs.Joined.{held, fitting};
-ghost use Rattle.frames.specs.Rounded.{octetsFor};
+ghost use Rattle.frames.specs.Extent.{octetsFor};
 ghost use Rattle.building.specs.UserData.{padded, userFrame, userData};
 use crate::layout::checked;
 use crate::layout::unprotected;
 use crate::padding::pad;
 use frames::data_type::DataType;
+use frames::extent::octets_for;
 use frames::octets::Octets;
 use frames::refusal::Refusal;
-use frames::rounding::octets_for;
 
 fn lay(
     data_type: DataType,

@@ -9,4 +9,4 @@ pub mod Distances
 pub mod Values
 pub mod DataTypes
 pub mod Contents
-pub mod Rounded
+pub mod Extent

@@ -1,7 +1,7 @@
 // Bits rounded up to octets.
 ghost use mathlib.Core.Path.{_≡_};
 ghost use Prim.Native.Nat.{_+_, _*_, _<_, _≤_};
-ghost use Rattle.frames.specs.Rounded.{octetsFor};
+ghost use Rattle.frames.specs.Extent.{octetsFor};
 
 // The octets that hold this many bits: no fewer do.
 pub fn octets_for(bits: usize) -> usize
