@@ -64,6 +64,7 @@ writing-step cs out was i v h r e w =
 pub record Written (cs now was : List ℕ) : Type 0 where
   pub out : now ≡ octetsIn cs ++ drop (length (octetsIn cs)) was
   pub count : length (octetsIn cs) ≡ length cs / 2
+  pub front : take (length cs / 2) now ≡ octetsIn cs
 
 pub writing-end : (cs out was : List ℕ) (i : ℕ) → i ≡ length cs / 2 → length cs % 2 ≡ 0 → i ≤ 512 → Writing cs out was i → Written cs out was
 writing-end cs out was i e h r w =
@@ -75,4 +76,4 @@ writing-end cs out was i e h r w =
     let c : length (octetsIn cs) ≡ i = cc in
     let a : take i out ++ drop i out ≡ out = take-append-drop i out in
     let b = w .back in
-    record { out = cc; count = cc }
+    record { out = cc; count = cc; front = cc }

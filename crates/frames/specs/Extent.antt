@@ -1,4 +1,4 @@
--- How many octets some bits take.
+-- Bits rounded up to octets.
 use Prim.Native.Nat.{ℕ, _+_, _/_}
 
 -- the least number of octets that holds some bits

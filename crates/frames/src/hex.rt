@@ -3,8 +3,9 @@ ghost use mathlib.Core.Path.{_≡_};
 ghost use mathlib.Core.Bool.{true};
 ghost use mathlib.Core.List.{_++_};
 ghost use Prim.Native.Nat.{ℕ, _+_, _*_, _/_, _%_, _<_, _≤_};
-ghost use lib.ListN.{length, drop};
+ghost use lib.ListN.{length, take, drop};
 ghost use Rattle.std.specs.Vec.{made};
+ghost use Rattle.std.specs.declared.result.Result.the-variants.{Ok};
 ghost use Rattle.frames.specs.Frame.{longest};
 ghost use Rattle.frames.specs.Hex.{isDigit, valueOf, allDigits, octetsIn, hexIn, counted, filled};
 use crate::octets::LONGEST;
@@ -47,6 +48,7 @@ fn fill(digits: &[u8], out: &mut [u8; 512])
     requires room { ⌜ length (now digits) / 2 ≤ 512 ⌝ }
     ensures out { λ _. ⌜ now (out .exit) ≡ octetsIn (now (digits .entry)) ++ drop (length (octetsIn (now (digits .entry)))) (now (out .entry)) ⌝ }
     ensures count { λ _. ⌜ length (octetsIn (now (digits .entry))) ≡ length (now (digits .entry)) / 2 ⌝ }
+    ensures front { λ _. ⌜ take (length (now (digits .entry)) / 2) (now (out .exit)) ≡ octetsIn (now (digits .entry)) ⌝ }
 {
     for i in 0..digits.len() / 2 {
         let high = value(digits[2 * i]);
@@ -60,6 +62,7 @@ pub fn read_hex(line: &[u8], out: &mut [u8; 512]) -> Result<usize, Refusal>
     ensures answer { λ r. ⌜ r ≡ counted (hexIn (now (line .entry))) ⌝ }
     ensures out { λ _. ⌜ now (out .exit) ≡ filled (hexIn (now (line .entry))) (now (out .entry)) ⌝ }
     ensures few { λ r. ⌜ made r (λ n. n ≤ longest) ⌝ }
+    ensures reads { λ r. ⌜ made r (λ n. hexIn (now (line .entry)) ≡ Ok (take n (now (out .exit)))) ⌝ }
 {
     if !all_digits(line) || line.len() % 2 != 0 {
         return Err(Refusal::Hexadecimal);

@@ -1,0 +1,3 @@
+pub mod Told
+pub mod Turns
+pub mod Whole

@@ -1,1 +1,4 @@
 pub mod Meaning
+pub mod Circle
+pub mod Runs
+pub mod Sent

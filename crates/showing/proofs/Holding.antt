@@ -19,14 +19,6 @@ use Rattle.frames.specs.Headers.{headerIn}
 use Rattle.frames.specs.Hex.{isDigit, allDigits, octetsIn, hexIn, counted, filled}
 use Rattle.showing.specs.Shown.{headed, shown, cappedAt}
 
--- the octets that were read are those that the line writes
-pub read-back : (h : Result (List ℕ) Refusal) (n : ℕ) (now was : List ℕ) → Ok n ≡ counted h → now ≡ filled h was → headerIn (take n now) ≡ headed h
-read-back (Ok os) n now was e f =
-    let l : length os ≡ n = cc in
-    let t : take n (os ++ drop (length os) was) ≡ os = take-at os (drop (length os) was) n l in
-    ap headerIn (ap (take n) f ∙ t)
-read-back (Err x) n now was e f = absurd (let z : _≡_ {A = ℕ} 0 1 = cc in omega arith)
-
 pub capped-low : (n : ℕ) → cappedAt n ≤ 1024 → cappedAt n ≡ n
 capped-low n h = grind (arith, tells)
 

@@ -27,4 +27,4 @@ loop-i-again c =
 pub returns : need.returns
 returns c =
     let w = writing-end (c .args .digits .now) (c .loop-i .out) (c .args .out .now) (c .loop-i .i) (omega arith) (c .pre .even) (omega arith) (c .loop-i .inv) in
-    record { out = w .out; count = w .count }
+    record { out = w .out; count = w .count; front = w .front }

@@ -1,0 +1,16 @@
+// A count of cells is checked before a line is made of it.
+ghost use mathlib.Core.Path.{_≡_};
+ghost use Rattle.cells.specs.Counts.{asCount, countIn};
+use crate::count::CellCount;
+use frames::refusal::Refusal;
+
+impl CellCount {
+    pub fn new(count: usize) -> Result<CellCount, Refusal>
+        ensures { λ r. ⌜ asCount r ≡ countIn count ⌝ }
+    {
+        if count < 1 || count > 32 {
+            return Err(Refusal::SettingRange);
+        }
+        Ok(CellCount { count })
+    }
+}

@@ -1,0 +1,3 @@
+pub mod Moves
+pub mod Exchanging
+pub mod Courses

@@ -1,0 +1,54 @@
+// The kinds of question.
+ghost use mathlib.Core.Path.{_≡_};
+ghost use Prim.Native.Nat.{ℕ};
+ghost use Rattle.frames.specs.Frame.{octetsOf};
+ghost use Rattle.exchange.specs.declared.exchange.Reply.{Reply};
+ghost use Rattle.exchange.specs.declared.exchange.Turn.{Turn};
+ghost use Rattle.exchange.specs.Asking.{Form, Proper};
+ghost use Rattle.exchange.specs.Books.{procedureOf};
+use crate::exchange::Reply;
+use crate::exchange::Turn;
+use frames::octets::Octets;
+use reports::ending::Ending;
+use reports::ending::Kind;
+
+// A kind of question names its procedure, its frames and the form of its answer.
+pub trait Inquiry: Copy {
+    const PROCEDURE: u8;
+
+    type Answer;
+
+    // The kind, the frame for each number, whether a further frame follows, what an answer leads to, and how it fails.
+    ghost form: { Form Self };
+    // An answer in this kind's form, and what it leads to.
+    ghost reads: { Reply → Self·Answer };
+
+    ghost turns: { Self·Answer → Turn };
+
+    law judged: { (r : Reply) → turns (reads r) ≡ form .turn r };
+
+    law proper: { Proper form };
+
+    fn kind() -> Kind
+        ensures { λ r. ⌜ r ≡ form .kind ⌝ };
+
+    // The constant, as contracts can cite it.
+    fn code() -> u8
+        ensures { λ r. ⌜ r ≡ procedureOf (form .kind) ⌝ };
+
+    fn frame(&self, number: u8) -> Octets
+        ensures { λ r. ⌜ octetsOf r ≡ form .ask (now (self .entry)) number ⌝ };
+
+    fn more(&self, number: u8) -> bool
+        ensures { λ r. ⌜ r ≡ form .follows (now (self .entry)) number ⌝ };
+
+    fn read(reply: Reply) -> Self::Answer
+        ensures { λ r. ⌜ r ≡ reads reply ⌝ };
+
+    fn turn(answer: Self::Answer) -> Turn
+        ensures { λ r. ⌜ r ≡ turns answer ⌝ };
+
+    // How a question ends that is not answered well: after a tick, or after an answer.
+    fn failure(ticked: bool) -> Ending
+        ensures { λ r. ⌜ r ≡ form .fails ticked ⌝ };
+}

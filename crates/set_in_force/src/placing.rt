@@ -1,0 +1,44 @@
+// Subflows placed one behind the other, from bit 0 without gaps.
+ghost use mathlib.Core.Path.{_≡_};
+ghost use Prim.Native.Nat.{_+_, _*_, _≤_, _<_};
+ghost use lib.ListN.{length};
+ghost use Rattle.sets.specs.Rows.{bits};
+ghost use Rattle.set_in_force.specs.Places.{placesFrom, placesIn, item};
+use super::place::Place;
+use super::place::Places;
+
+// The places of the subflows of these sizes.
+pub(crate) fn place_all(sizes: &[u16]) -> Places
+    requires few { ⌜ length (now sizes) ≤ 7 ⌝ }
+    requires bits { ⌜ bits (now sizes) ≤ 4000 ⌝ }
+    ensures { λ r. ⌜ placesIn r ≡ placesFrom 0 (now (sizes .entry)) ⌝ }
+{
+    let mut cells = [Place { first: 0, bits: 0 }; 7];
+    let mut first = 0;
+    for (k, size) in sizes.iter().enumerate() {
+        cells[k] = Place { first, bits: *size };
+        first += *size;
+    }
+    Places {
+        cells,
+        count: sizes.len(),
+    }
+}
+
+fn place_at(places: &[Place], subflow: usize) -> Option<Place>
+    ensures { λ r. ⌜ r ≡ item (now (places .entry)) subflow ⌝ }
+{
+    if subflow >= places.len() {
+        return None;
+    }
+    Some(places[subflow])
+}
+
+impl Places {
+    // The first bit and the length of a subflow, counted from 0.
+    pub fn get(&self, subflow: usize) -> Option<Place>
+        ensures { λ r. ⌜ r ≡ item (placesIn (now (self .entry))) subflow ⌝ }
+    {
+        place_at(&self.cells[0..self.count], subflow)
+    }
+}
