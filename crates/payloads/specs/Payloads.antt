@@ -49,8 +49,8 @@ asEvent (Ok e) = Ok (e .distance, e .cause .value)
 asEvent (Err e) = Err e
 
 -- the distance is in the two high bits, of which 3 is reserved, and the cause in the six low ones
+abbrev pub eventOf : ℕ → Result (Distance × ℕ) Refusal
+eventOf octet = cond (ltb 2 (octet / 64)) (Err ReservedValue) (Ok (distanceOf (octet / 64), octet % 64))
+
 abbrev pub eventIn : (version checksum : ℕ) → List ℕ → Result (Distance × ℕ) Refusal
-eventIn version checksum payload =
-    let octet = getD payload 0 0 in
-    opened version checksum payload
-    (within 1 payload (cond (ltb 2 (octet / 64)) (Err ReservedValue) (Ok (distanceOf (octet / 64), octet % 64))))
+eventIn version checksum payload = opened version checksum payload (within 1 payload (eventOf (getD payload 0 0)))
