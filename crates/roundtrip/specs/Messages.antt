@@ -65,3 +65,7 @@ sent (alignment n o) = alignmentFrame n o
 sent (event n d c) = errorFrame n (distanceCode d) c
 sent (ack q n) = ackFrame (codeOf q) n
 sent (nack q n c) = nackFrame (codeOf q) n c
+
+-- a received frame, read and built again
+abbrev pub rebuilt : List ℕ → Result (List ℕ) Refusal
+rebuilt o = mapped sent (told o)

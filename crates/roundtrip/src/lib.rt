@@ -1,8 +1,3 @@
-// Both round trips.
-ghost use Rattle.roundtrip.specs.Trips.{BuiltIsRead};
-
-pub fn trial() -> u8
-    ensures { λ _. ⌜ BuiltIsRead ⌝ }
-{
-    0
-}
+// Frames read and built again, and the laws of both round trips.
+mod again;
+pub mod rebuild;
