@@ -17,16 +17,20 @@ use std::time::Instant;
 // The whole of a frame: header, fields and checksums.
 fn is_accepted(octets: &[u8]) -> bool {
     match read(octets) {
-        Ok(Frame::UserData {
-            checksum,
-            payload,
-            ..
-        }) => { check_user_data(checksum, payload).is_ok() }
-        Ok(Frame::Ack {
-            version,
-            payload,
-            ..
-        }) => { read_ack(version, payload).is_ok() }
+        Ok(
+            Frame::UserData {
+                checksum,
+                payload,
+                ..
+            },
+        ) => { check_user_data(checksum, payload).is_ok() }
+        Ok(
+            Frame::Ack {
+                version,
+                payload,
+                ..
+            },
+        ) => { read_ack(version, payload).is_ok() }
         _ => false,
     }
 }
@@ -48,12 +52,21 @@ fn measure(rt: &LibcRuntime, name: &str, frame: &Octets, times: u32) -> io::Resu
     let accepted = read_often(octets, times);
     let spent = start.elapsed(rt)?;
     let micros = spent.as_micros();
-    println!(rt, "{name}: {length} octets, accepted {accepted} of {times}")?;
+    println!(
+        rt,
+        "{name}: {length} octets, accepted {accepted} of {times}"
+    )?;
     eprintln!(rt, "{name} {length} {times} {micros}")
 }
 
-fn measure_data(rt: &LibcRuntime, name: &str, payload: &[u8], times: u32) -> io::Result<()> {
-    match build_user_data(DataType::Checked, 1, 0, 2, 8 * payload.len(), payload) {
+fn measure_data(
+    rt: &LibcRuntime,
+    name: &str,
+    bits: usize,
+    payload: &[u8],
+    times: u32,
+) -> io::Result<()> {
+    match build_user_data(DataType::Checked, 1, 0, 2, bits, payload) {
         Ok(frame) => measure(rt, name, &frame, times),
         Err(_) => println!(rt, "{name}: not built"),
     }
@@ -74,9 +87,9 @@ fn main(rt: LibcRuntime) -> io::Result<()> {
     let mut input = [0; 64];
     let count = rt.stdin().read(&mut input)?;
     let times = count_in(&input[0..count]);
-    measure_data(&rt, "user data 5", &[0x55; 5], times)?;
-    measure_data(&rt, "user data 40", &[0x55; 40], times)?;
-    measure_data(&rt, "user data 500", &[0x55; 500], times)?;
+    measure_data(&rt, "user data 5", 40, &[0x55; 5], times)?;
+    measure_data(&rt, "user data 40", 320, &[0x55; 40], times)?;
+    measure_data(&rt, "user data 500", 4000, &[0x55; 500], times)?;
     let ack = build_ack(Procedure::Initialisation, Number::first());
     measure(&rt, "Ack", &ack, times)
 }

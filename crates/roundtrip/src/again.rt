@@ -41,14 +41,7 @@ fn data_again(
     ensures { λ r. ⌜ held r ≡ mapped sent (mapped (λ _. user «data_type» number fqc rfci (now (payload .entry))) (summed checksum (now (payload .entry)))) ⌝ }
 {
     check_user_data(checksum, payload)?;
-    build_user_data(
-        data_type,
-        number,
-        fqc,
-        rfci,
-        8 * payload.len(),
-        payload,
-    )
+    build_user_data(data_type, number, fqc, rfci, 8 * payload.len(), payload)
 }
 
 fn question_again(
