@@ -62,14 +62,14 @@ pub question-bytes : (o : List ℕ) (n v : ℕ) (q : Procedure) (c p : ℕ) (x :
 question-bytes o n v q c p x by e = search needs
 
 -- what an accepted value came from
-mapped-from : {A B : Type 0} (f : A → B) (r : Result A Refusal) (m : B) → mapped f r ≡ Ok m → (y : A) × (r ≡ Ok y) × (f y ≡ m)
+pub mapped-from : {A B : Type 0} (f : A → B) (r : Result A Refusal) (m : B) → mapped f r ≡ Ok m → (y : A) × (r ≡ Ok y) × (f y ≡ m)
 mapped-from f (Ok y) m e = (y, refl, cc)
 mapped-from f (Err r) m e = absurd (let z : _≡_ {A = ℕ} 0 1 = cc in omega arith)
 
 versioned-from : {A : Type 0} (v : ℕ) (rest : Result A Refusal) (y : A) → versioned v rest ≡ Ok y → (v ≡ 0) × (rest ≡ Ok y)
 versioned-from v rest y e = grind (arith, tells)
 
-opened-from : {A : Type 0} (v c : ℕ) (x : List ℕ) (rest : Result A Refusal) (y : A) → opened v c x rest ≡ Ok y → (v ≡ 0) × (c ≡ payloadSum x) × (rest ≡ Ok y)
+pub opened-from : {A : Type 0} (v c : ℕ) (x : List ℕ) (rest : Result A Refusal) (y : A) → opened v c x rest ≡ Ok y → (v ≡ 0) × (c ≡ payloadSum x) × (rest ≡ Ok y)
 opened-from v c x rest y e = grind (arith, tells)
 
 within-from : {A : Type 0} (n : ℕ) (x : List ℕ) (rest : Result A Refusal) (y : A) → within n x rest ≡ Ok y → rest ≡ Ok y

@@ -1,3 +1,4 @@
 pub mod Marks
 pub mod Read
 pub mod Built
+pub mod Data

@@ -2,7 +2,8 @@
 use mathlib.Core.Path.{_≡_}
 use mathlib.Core.List.{List}
 use mathlib.Core.Bool.{false}
-use Prim.Native.Nat.{ℕ, _+_, _*_, _/_, _%_, _<_, _≤_}
+use mathlib.Core.Logic.{_≢_}
+use Prim.Native.Nat.{ℕ, _+_, _-_, _*_, _/_, _%_, _^_, _<_, _≤_}
 use lib.ListN.{length, getD, drop}
 use Rattle.std.specs.declared.result.Result.{Result}
 use Rattle.std.specs.declared.result.Result.the-variants.{Ok, Err}
@@ -17,6 +18,7 @@ use Rattle.frames.specs.Extent.{octetsFor}
 use Rattle.frames.specs.Frame.{longest}
 use Rattle.frames.specs.Values.{shiftOf}
 use Rattle.payloads.specs.Payloads.{countIn, barred}
+use Rattle.building.specs.UserData as payload
 use Rattle.roundtrip.specs.Messages.{Message, user, link, rate, alignment, event, ack, nack, told, sent}
 
 -- values that fit their fields
@@ -62,3 +64,17 @@ Exact o = (c : Contents) → parsed o ≡ Ok c → ExactAs o c
 abbrev pub ReadIsBuilt : Type 0
 ReadIsBuilt =
     (o : List ℕ) (m : Message) → ((k : ℕ) → getD o k 0 < 256) → told o ≡ Ok m → Exact o → sent m ≡ o
+
+-- user data of some bits: what is built is read as its padded payload
+abbrev pub DataIsRead : Type 0
+DataIsRead =
+    (t : DataType) (n f i bits : ℕ) (x o : List ℕ) → payload.userData t n f i bits x ≡ Ok o → told o ≡ Ok (user t n f i (payload.padded bits x))
+
+-- the bits after the last one of the payload
+abbrev pub DataPaddingZero : ℕ → List ℕ → Type 0
+DataPaddingZero bits x = bits % 8 ≢ 0 → getD x (bits / 8) 0 % 2 ^ (8 - bits % 8) ≡ 0
+
+-- what was read and accepted is built as it was, from as many bits as its octets hold
+abbrev pub DataIsBuilt : Type 0
+DataIsBuilt =
+    (o : List ℕ) (t : DataType) (n f i bits : ℕ) (x : List ℕ) → ((k : ℕ) → getD o k 0 < 256) → told o ≡ Ok (user t n f i x) → Exact o → length x ≡ octetsFor bits → DataPaddingZero bits x → payload.userData t n f i bits x ≡ Ok o

@@ -4,7 +4,7 @@ ghost use Rattle.std.specs.Vec.{made};
 ghost use Rattle.frames.specs.Frame.{octetsOf};
 ghost use Rattle.frames.specs.Joined.{held};
 ghost use Rattle.roundtrip.specs.Messages.{rebuilt};
-ghost use Rattle.roundtrip.specs.Trips.{Exact, BuiltIsRead, ReadIsBuilt};
+ghost use Rattle.roundtrip.specs.Trips.{Exact, BuiltIsRead, ReadIsBuilt, DataIsRead, DataIsBuilt};
 use crate::again::build_again;
 use frames::octets::Octets;
 use frames::refusal::Refusal;
@@ -15,6 +15,8 @@ pub fn rebuild(octets: &[u8]) -> Result<Octets, Refusal>
     ensures same { λ r. ⌜ (Exact (now (octets .entry)) → made r (λ f. octetsOf f ≡ now (octets .entry))) ⌝ }
     ensures reads { λ _. ⌜ BuiltIsRead ⌝ }
     ensures builds { λ _. ⌜ ReadIsBuilt ⌝ }
+    ensures data_reads { λ _. ⌜ DataIsRead ⌝ }
+    ensures data_builds { λ _. ⌜ DataIsBuilt ⌝ }
 {
     build_again(octets)
 }

@@ -1,5 +1,6 @@
 use Rattle.roundtrip.proofs.Read.{built-is-read}
 use Rattle.roundtrip.proofs.Built.{read-is-built, same-from}
+use Rattle.roundtrip.proofs.Data.{data-is-read, data-is-built}
 use Rattle.roundtrip.proofs.rebuild.rebuild.Needs as need
 
 pub returns : need.returns
@@ -9,4 +10,6 @@ returns c =
       same = same-from (c .args .octets .now) (c .build-again .result) (λ k. c .typed .octets k .fits) (c .build-again .ensures);
       reads = built-is-read;
       builds = read-is-built;
+      data-reads = data-is-read;
+      data-builds = data-is-built;
     }
