@@ -8,6 +8,7 @@ use crate::line::Line;
 use frames::refusal::Refusal;
 
 // What became of a frame that was put, with its octets.
+#[derive(Drop)]
 pub enum Sending<'a> {
     HandedOver(&'a [u8]),
     Refused(&'a [u8]),
@@ -42,6 +43,12 @@ impl<L: Line> Sender<L> {
             Ok(()) => Sending::HandedOver(frame),
             Err(_) => Sending::Refused(frame),
         }
+    }
+
+    pub fn takes_length(&self, length: usize) -> bool
+        ensures { λ r. ⌜ r ≡ L·Line .takes (now (self .entry) .line) length ⌝ }
+    {
+        self.line.takes_length(length)
     }
 
     pub fn take(&mut self, out: &mut [u8]) -> Result<Option<usize>, Refusal>
