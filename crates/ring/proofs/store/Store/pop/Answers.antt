@@ -34,7 +34,7 @@ returns c =
     let first : held s ≡ oldest s ∷ held s₃ = held-first s sound some ∙ ap (λ x. oldest s ∷ x) (sym (held-is s₃ (drop 1 (held s)) e)) in
     let long = read-len s sound some _ _ _ _ a b in
     record {
-      sound = sound-is s₃ (drop 1 (held s)) (c .read .ensures .round) (omega (arith, sound .least, size)) e (rest-framed s sound some);
+      sound = sound-is s₃ (drop 1 (held s)) (c .read .ensures .round) (omega (arith, sound .large, size)) e (rest-framed s sound some);
       held = first;
       size = size;
       cost = ap cost first ∙ ap (λ k. k + 2 + cost (held s₃)) (sym long);
