@@ -5,7 +5,6 @@ use cells::cells::Cells;
 use cells::count::CellCount;
 use cells::queue::CellsLine;
 use frames::octets::LONGEST;
-use frames::refusal::Refusal;
 use lines::line::Line;
 use lines::sender::Sender;
 use lines::sender::Sending;
