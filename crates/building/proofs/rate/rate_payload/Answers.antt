@@ -16,7 +16,7 @@ loop-k-holds c =
     let b = c .args .bars .now in
     let nine : length p ≡ 9 = search needs in
     let e = begun (c .octets-for-octets .result) (length b) b p (omega arith) in
-    let o = c .octets-for-octets .ensures in
+    let o = c .octets-for-octets .ensures .is in
     ((cc), simp length-set (search needs))
 
 pub loop-k-again : need.loop-k-again
