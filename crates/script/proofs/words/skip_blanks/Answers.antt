@@ -13,8 +13,8 @@ returns c =
     let line = c .args .line .now in
     let at : c .cut .result .rest .now ≡ drop (runOf true line) line = c .cut .ensures .rest ∙ ap (λ (n : ℕ). drop n line) (c .run .ensures .run) in
     let few = length-drop (runOf true line) line in
-    record
-    { words = ap wordsOf at ∙ blanks-skipped line
-    ; shorter = omega (arith, ap length at)
-    ; word = λ z. at ∙ word-follows line (sym (ap (runOf false) at) ∙ z)
+    record {
+      words = ap wordsOf at ∙ blanks-skipped line;
+      shorter = omega (arith, ap length at);
+      word = λ z. at ∙ word-follows line (sym (ap (runOf false) at) ∙ z);
     }
