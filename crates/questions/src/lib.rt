@@ -1,0 +1,5 @@
+// The questions of the radio end, and the form of the answer to each.
+pub mod alignment;
+pub mod answer;
+mod answering;
+pub mod rate;
