@@ -1,0 +1,6 @@
+// What both ends share: settings, error events, and user data sent and received.
+mod asking;
+pub mod bearer;
+mod errors;
+pub mod settings;
+mod traffic;
