@@ -17,7 +17,8 @@ use Rattle.frames.specs.declared.refusal.Refusal.the-variants.{WrongPhase, Rfci
 use Rattle.frames.specs.DataTypes.{dataNumber}
 use Rattle.sets.specs.Closing.{Contents}
 use Rattle.set_in_force.specs.Looks.{Found, lookedUp, Searched}
-use Rattle.set_in_force.specs.Places.{octetsHolding}
+use Rattle.set_in_force.specs.declared.place.Entry.{Entry}
+use Rattle.set_in_force.specs.Places.{octetsHolding, placesIn}
 use Rattle.building.specs.UserData.{userData}
 use Rattle.reports.specs.Said.{Brought, Happening, delivered, handed}
 use Rattle.reports.specs.Effects.{Effect, refuses}
@@ -100,15 +101,23 @@ abbrev pub expectedNext : Numbering → ℕ → Force → Force
 expectedNext Counted number x = record { set = x .set; sending = x .sending; expected = (number + 1) % 16 }
 expectedNext Timed number x = x
 
+-- what is told of a delivery: damaged user data is told as bad
+abbrev pub brings : Data → Numbering → Force → Found → Brought
+brings d m x c = record { rfci = d .rfci; fqc = cond (damaged (d .checksum) (d .payload)) 1 (d .fqc); gap = gapOf m (x .expected) (d .number); place = d .place; subflows = c .places }
+
+abbrev pub counting : Data → Bearing → Force → Bearing
+counting d b x = withForce (Some (expectedNext (b .settings .numbering) (d .number) x)) b
+
 -- a delivery, and where there is a gap an error event with cause 3
 abbrev pub delivers : (ℕ → Bool) → Data → Bearing → Force → Found → Effect Bearing (Unit {0})
 delivers takes d b x c =
-    let gap = gapOf (b .settings .numbering) (x .expected) (d .number) in
-    let told = delivered (record { rfci = d .rfci; fqc = cond (damaged (d .checksum) (d .payload)) 1 (d .fqc); gap = gap; place = d .place; subflows = c .places }) in
-    let after = withForce (Some (expectedNext (b .settings .numbering) (d .number) x)) b in
-    cond (eqb gap 0)
-    (record { next = after; says = told ∷ []; answer = Ok tt })
-    (record { next = eventUsed after; says = told ∷ event takes 3 after ∷ []; answer = Ok tt })
+    cond (eqb (gapOf (b .settings .numbering) (x .expected) (d .number)) 0)
+    (record { next = counting d b x; says = delivered (brings d (b .settings .numbering) x c) ∷ []; answer = Ok tt })
+    (record { next = eventUsed (counting d b x); says = delivered (brings d (b .settings .numbering) x c) ∷ event takes 3 (counting d b x) ∷ []; answer = Ok tt })
+
+-- a combination as the code finds it
+abbrev pub foundOf : Entry → Found
+foundOf e = record { index = e .index; bits = e .bits; allowed = e .allowed; places = placesIn (e .places) }
 
 -- short; over by more than 4 octets; a wrong checksum that is not kept
 abbrev pub judges : (ℕ → Bool) → Data → Bearing → Force → Option Found → Effect Bearing (Unit {0})

@@ -2,5 +2,6 @@
 mod asking;
 pub mod bearer;
 mod errors;
+mod receiving;
 pub mod settings;
 mod traffic;
