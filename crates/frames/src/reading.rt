@@ -2,8 +2,8 @@
 ghost use mathlib.Core.Path.{_≡_};
 ghost use Prim.Native.Nat.{_≤_, _+_, _*_, _/_, _%_};
 ghost use lib.ListN.{length, getD, drop};
-ghost use Rattle.std.specs.Results.{Cases};
-ghost use Rattle.std.specs.declared.result.Result.the-variants.{Ok, Err};
+ghost use Rattle.std.specs.Vec.{made};
+ghost use Rattle.std.specs.declared.result.Result.the-variants.{Ok};
 ghost use Rattle.frames.specs.Contents.{seen, content, contents, controlled, parsed, Fit};
 ghost use Rattle.frames.specs.declared.header.PduType.the-variants.{CheckedData, PlainData, Control};
 use crate::data_type::DataType;
@@ -14,8 +14,9 @@ use crate::procedure::Procedure;
 use crate::refusal::Refusal;
 
 fn read_plain(octets: &[u8]) -> Frame<'_>
-    requires { ⌜ 3 ≤ length (now octets) ⌝ }
-    ensures { λ r. ⌜ seen (Ok r) ≡ contents PlainData (now (octets .entry)) ⌝ }
+    requires { ⌜ (3 ≤ length (now octets)) × (length (now octets) ≤ 512) ⌝ }
+    ensures says { λ r. ⌜ seen (Ok r) ≡ contents PlainData (now (octets .entry)) ⌝ }
+    ensures fit { λ r. ⌜ Fit (content r) ⌝ }
 {
     let [first, second, _, payload @ ..] = octets else {
         return unreachable();
@@ -32,8 +33,9 @@ fn read_plain(octets: &[u8]) -> Frame<'_>
 }
 
 fn read_checked(octets: &[u8]) -> Frame<'_>
-    requires { ⌜ 4 ≤ length (now octets) ⌝ }
-    ensures { λ r. ⌜ seen (Ok r) ≡ contents CheckedData (now (octets .entry)) ⌝ }
+    requires { ⌜ (4 ≤ length (now octets)) × (length (now octets) ≤ 512) ⌝ }
+    ensures says { λ r. ⌜ seen (Ok r) ≡ contents CheckedData (now (octets .entry)) ⌝ }
+    ensures fit { λ r. ⌜ Fit (content r) ⌝ }
 {
     let [first, second, third, fourth, payload @ ..] = octets else {
         return unreachable();
@@ -58,8 +60,9 @@ fn sum_field(third: u8, fourth: u8) -> u16
 
 // An answer's ten bits are spare, and not read.
 fn read_control(octets: &[u8]) -> Result<Frame<'_>, Refusal>
-    requires { ⌜ 4 ≤ length (now octets) ⌝ }
-    ensures { λ r. ⌜ seen r ≡ contents Control (now (octets .entry)) ⌝ }
+    requires { ⌜ (4 ≤ length (now octets)) × (length (now octets) ≤ 512) ⌝ }
+    ensures says { λ r. ⌜ seen r ≡ contents Control (now (octets .entry)) ⌝ }
+    ensures fit { λ r. ⌜ made r (λ f. Fit (content f)) ⌝ }
 {
     let [first, second, third, fourth, payload @ ..] = octets else {
         return unreachable();
@@ -100,7 +103,8 @@ fn read_control(octets: &[u8]) -> Result<Frame<'_>, Refusal>
 
 // The header decides first; then, in a control frame, its kind and its procedure.
 pub fn read(octets: &[u8]) -> Result<Frame<'_>, Refusal>
-    ensures { λ r. ⌜ seen r ≡ parsed (now (octets .entry)) ⌝ }
+    ensures says { λ r. ⌜ seen r ≡ parsed (now (octets .entry)) ⌝ }
+    ensures fit { λ r. ⌜ made r (λ f. Fit (content f)) ⌝ }
 {
     let header = read_header(octets)?;
     match header.pdu_type {
