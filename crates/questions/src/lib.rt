@@ -2,4 +2,6 @@
 pub mod alignment;
 pub mod answer;
 mod answering;
+mod fitting;
+pub mod links;
 pub mod rate;
