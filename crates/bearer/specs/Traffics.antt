@@ -9,16 +9,17 @@ use Rattle.std.specs.declared.option.Option.{Option}
 use Rattle.std.specs.declared.option.Option.the-variants.{Some, None}
 use Rattle.std.specs.declared.result.Result.{Result}
 use Rattle.std.specs.declared.result.Result.the-variants.{Ok, Err}
-use Rattle.checksum.specs.Division.{payloadSum}
 use Rattle.frames.specs.declared.«data_type».DataType.{DataType}
 use Rattle.frames.specs.declared.«data_type».DataType.the-variants.{Checked, Plain}
 use Rattle.frames.specs.declared.refusal.Refusal.{Refusal}
 use Rattle.frames.specs.declared.refusal.Refusal.the-variants.{WrongPhase, RfciBarred, LineDeclines, UnexpectedPduType, UnknownRfci, TooShort, UnexpectedValue, PayloadChecksum}
+use Rattle.frames.specs.Extent.{octetsFor}
 use Rattle.frames.specs.DataTypes.{dataNumber}
 use Rattle.sets.specs.Closing.{Contents}
 use Rattle.set_in_force.specs.Looks.{Found, lookedUp, Searched}
 use Rattle.set_in_force.specs.declared.place.Entry.{Entry}
-use Rattle.set_in_force.specs.Places.{octetsHolding, placesIn}
+use Rattle.set_in_force.specs.Places.{placesIn}
+use Rattle.payloads.specs.Checks.{summed}
 use Rattle.building.specs.UserData.{userData}
 use Rattle.reports.specs.Said.{Brought, Happening, delivered, handed}
 use Rattle.reports.specs.Effects.{Effect, refuses}
@@ -88,9 +89,12 @@ abbrev pub dataOf : UserFrame → Data
 dataOf f = record { type = f .«data_type»; number = f .number; fqc = f .fqc; rfci = f .rfci; checksum = f .checksum; place = f .place; payload = f .payload .now }
 
 -- whether the payload is not what its checksum says
+abbrev pub fails : Result (Unit {0}) Refusal → Bool
+fails (Ok u) = false
+fails (Err e) = true
+
 abbrev pub damaged : Option ℕ → List ℕ → Bool
-damaged None payload = false
-damaged (Some c) payload = not (eqb c (payloadSum payload))
+damaged checksum payload = fails (summed checksum payload)
 
 -- how far a number is off the expected one
 abbrev pub gapOf : Numbering → ℕ → ℕ → ℕ
@@ -123,8 +127,8 @@ foundOf e = record { index = e .index; bits = e .bits; allowed = e .allowed; pla
 abbrev pub judges : (ℕ → Bool) → Data → Bearing → Force → Option Found → Effect Bearing (Unit {0})
 judges takes d b x None = objects takes UnknownRfci b
 judges takes d b x (Some c) =
-    cond (ltb (length (d .payload)) (octetsHolding (c .bits))) (objects takes TooShort b)
-    (cond (ltb (octetsHolding (c .bits) + 4) (length (d .payload))) (objects takes UnexpectedValue b)
+    cond (ltb (length (d .payload)) (octetsFor (c .bits))) (objects takes TooShort b)
+    (cond (ltb (octetsFor (c .bits) + 4) (length (d .payload))) (objects takes UnexpectedValue b)
     (cond (damaged (d .checksum) (d .payload) && not (b .settings .«keep_damaged»)) (refuses b PayloadChecksum)
     (delivers takes d b x c)))
 

@@ -2,6 +2,7 @@
 mod asking;
 pub mod bearer;
 mod errors;
+pub mod marks;
 mod receiving;
 pub mod settings;
 mod traffic;

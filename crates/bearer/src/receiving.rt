@@ -10,24 +10,24 @@ use crate::bearer::Bearer;
 use crate::bearer::Traffic;
 use crate::bearer::UserFrame;
 use crate::settings::Numbering;
-use checksum::payload_checksum;
 use frames::cause::Cause;
+use frames::extent::octets_for;
 use frames::refusal::Refusal;
 use lines::line::Line;
+use payloads::check::check_user_data;
 use reports::report::Delivery;
 use reports::report::Entry;
 use reports::report::Report;
 use set_in_force::place::Entry as Found;
-use set_in_force::placing::octets_of;
 
 impl UserFrame<'_> {
     // Whether the payload is not what its checksum says.
     fn is_damaged(&self) -> bool
         ensures { λ r. ⌜ r ≡ damaged (now (self .entry) .checksum) (now (self .entry) .payload .now) ⌝ }
     {
-        match self.checksum {
-            Some(sum) => sum != payload_checksum(self.payload),
-            None => false,
+        match check_user_data(self.checksum, self.payload) {
+            Ok(()) => false,
+            Err(_) => true,
         }
     }
 }
@@ -95,7 +95,7 @@ impl Bearer {
         ensures { λ r. ⌜ Answered (L·Line .waiting) (judges (L·Line .takes (now (line .entry))) (dataOf (frame .entry)) (bearing (now (self .entry))) (forceOf traffic) (Some (foundOf found))) (bearing (now (self .exit))) (now (line .entry)) (now (line .exit)) (said (now (report .exit))) r ⌝ }
     {
         report.clear();
-        let octets = octets_of(found.bits) as usize;
+        let octets = octets_for(found.bits as usize);
         if frame.payload.len() < octets {
             return self.object(Refusal::TooShort, line, report);
         }
