@@ -11,7 +11,7 @@ use Rattle.exchange.specs.Asking.{Form, Watch, Proper, begun, sent, ticked, he
 use Rattle.exchange.specs.Books.{Mark, opened, announced, asked, waited, same, procedureOf, named, blank, entered, Kept}
 use Rattle.exchange.specs.Course.{Course, asks, ticks, hears, CoursesHold}
 use Rattle.exchange.proofs.Moves.{Booked, begins, moved, kept, blank-idle, entered-++}
-use Rattle.exchange.proofs.Exchanging.{only, Asks, Goes, asking, ticking, hearing}
+use Rattle.exchange.proofs.Exchanging.{only, Asks, Goes, sends, ticking, hearing}
 
 module _ (f : Form) (proper : Proper f) (t n : ℕ) (low : 1 ≤ t) (m : ℕ) (lt : m < 4) where
   own : (ms : List Mark) → only (f .kind) (f .kind) ms ≡ ms
@@ -19,7 +19,7 @@ module _ (f : Form) (proper : Proper f) (t n : ℕ) (low : 1 ≤ t) (m : ℕ) (l
 
   stands : {ms : List Mark} {o : Option Watch} → Course f t n (begun t m) ms o → Asks o × Booked t n o (entered ms blank)
   stands (asks takes) =
-      (lt, subst (λ x. Booked t n (Some (begun t m)) (entered (opened ∷ announced ∷ x) blank)) (sym (asking f proper takes t n (f .kind) (begun t m) lt ∙ own (asked m ∷ []))) (moved t n blank low (begins refl refl) (blank-idle t n)))
+      (lt, subst (λ x. Booked t n (Some (begun t m)) (entered (opened ∷ announced ∷ x) blank)) (sym (sends f proper takes t n (f .kind) (begun t m) lt ∙ own (asked m ∷ []))) (moved t n blank low (begins refl refl) (blank-idle t n)))
   stands (ticks {ms} {b} takes c) =
       let h = stands c in
       let g = ticking f proper takes t n b (h .0) in (

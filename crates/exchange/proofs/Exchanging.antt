@@ -16,7 +16,7 @@ use Rattle.reports.specs.Said.{Brought, Happening, began, over, delivered, hand
 use Rattle.exchange.specs.declared.exchange.Reply.{Reply}
 use Rattle.exchange.specs.declared.exchange.Turn.{Turn}
 use Rattle.exchange.specs.declared.exchange.Turn.the-variants.{Onward, Again, Stop}
-use Rattle.exchange.specs.Asking.{Form, Watch, Headed, Fails, Proper, Outcome, Hearing, judged, ends, begun, repeated, less, sent, again, ticked, turned, heard}
+use Rattle.exchange.specs.Asking.{Form, Watch, resumed, meant, asking, watchOf, Headed, Fails, Proper, Outcome, Hearing, judged, ends, begun, repeated, less, sent, again, ticked, turned, heard}
 use Rattle.exchange.specs.Books.{Mark, announced, closed, asked, waited, procedureOf, same, question, notes, named, completes, doneIn}
 use Rattle.exchange.proofs.Moves.{Move, stays, waits, lapses, expires, repeats, advances, closes}
 
@@ -24,6 +24,15 @@ use Rattle.exchange.proofs.Moves.{Move, stays, waits, lapses, expires, repeats
 pub by-cond : {A : Type 0} {x y : A} (P : A → Type 0) (b : Bool) → (b ≡ true → P x) → (b ≡ false → P y) → P (cond b x y)
 by-cond P true f g = f refl
 by-cond P false f g = g refl
+
+-- the meaning of an exchange that goes on is that of its question
+pub meant-resumed : {Q M : Type 0} (means : Q → M) (q : Q) (w : Option Watch) → meant means (resumed q w) ≡ asking (means q) w
+meant-resumed means q None = refl
+meant-resumed means q (Some w) = refl
+
+pub watch-asking : {M : Type 0} (q : M) (w : Option Watch) → watchOf (asking q w) ≡ w
+watch-asking q None = refl
+watch-asking q (Some w) = refl
 
 -- the marks of kind k, in the books of kind j
 abbrev pub only : Kind → Kind → List Mark → List Mark
@@ -86,8 +95,8 @@ finishes : (k j : Kind) (c : Ending) → named j (over k c ∷ []) ≡ only k j 
 finishes k j c = append-nil (only k j (closed ∷ []))
 
 module _ (f : Form) (proper : Proper f) (takes : ℕ → Bool) (t n : ℕ) where
-  pub asking : (j : Kind) (a : Watch) → a .number < 4 → named j (sent f takes a .says) ≡ only (f .kind) j (asked (a .number) ∷ [])
-  asking j a h = saying j (takes (length (f .frame (a .number)))) (f .frame (a .number)) ∙ read (f .kind) j (a .number) (f .frame (a .number)) h (proper .headed (a .number) h)
+  pub sends : (j : Kind) (a : Watch) → a .number < 4 → named j (sent f takes a .says) ≡ only (f .kind) j (asked (a .number) ∷ [])
+  sends j a h = saying j (takes (length (f .frame (a .number)))) (f .frame (a .number)) ∙ read (f .kind) j (a .number) (f .frame (a .number)) h (proper .headed (a .number) h)
 
   unsent : (a : Watch) (j : Kind) → doneIn j (sent f takes a .says) ≡ false
   unsent a j = undone j (takes _) (f .frame (a .number))
@@ -101,7 +110,7 @@ module _ (f : Form) (proper : Proper f) (takes : ℕ → Bool) (t n : ℕ) where
 
   resent : (before : List Mark) (a : Watch) → a .number < 4 → Move t n (Some a) (before ++ asked (a .number) ∷ []) (Some (repeated t a)) → Goes t n (f .kind) before a (sent f takes (repeated t a))
   resent before a h m =
-      record { marks = asked (a .number) ∷ []; move = m; says = λ j. asking j (repeated t a) h; asks = h; still = unsent (repeated t a); other = λ j _. unsent (repeated t a) j; plain = unbrought (repeated t a) }
+      record { marks = asked (a .number) ∷ []; move = m; says = λ j. sends j (repeated t a) h; asks = h; still = unsent (repeated t a); other = λ j _. unsent (repeated t a) j; plain = unbrought (repeated t a) }
 
   repeating : (c : Ending) (a : Watch) → completes c ≡ false → a .number < 4 → Goes t n (f .kind) [] a (again f takes t n c a)
   repeating c a e h =
@@ -134,7 +143,7 @@ module _ (f : Form) (proper : Proper f) (takes : ℕ → Bool) (t n : ℕ) where
   followed a h e =
       let lt : a .number + 1 < 4 = omega (arith, proper .few (a .number) e) in
       let b = begun t (a .number + 1) in
-      record { marks = asked (a .number + 1) ∷ []; move = advances; says = λ j. asking j b lt; asks = lt; still = unsent b; other = λ j _. unsent b j; plain = unbrought b }
+      record { marks = asked (a .number + 1) ∷ []; move = advances; says = λ j. sends j b lt; asks = lt; still = unsent b; other = λ j _. unsent b j; plain = unbrought b }
 
   ended : (a : Watch) → Goes t n (f .kind) [] a (ends (f .kind) Done)
   ended a = record { marks = closed ∷ []; move = closes; says = λ j. finishes (f .kind) j Done; asks = tt; still = tt; other = λ j e. ap (λ b. (b && true) || false) e; plain = refl }

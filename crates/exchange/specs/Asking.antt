@@ -67,6 +67,23 @@ abbrev pub resumed : {Q : Type 0} → Q → Option Watch → Option (Exchange Q)
 resumed q None = None
 resumed q (Some w) = Some (record { question = q; ticks = w .ticks; repeats = w .repeats; number = w .number })
 
+-- an exchange with the meaning of its question
+pub record Asked (M : Type 0) : Type 0 where
+  pub question : M
+  pub watch : Watch
+
+abbrev pub meant : {Q M : Type 0} → (Q → M) → Option (Exchange Q) → Option (Asked M)
+meant means None = None
+meant means (Some e) = Some (record { question = means (e .question); watch = watch e })
+
+abbrev pub asking : {M : Type 0} → M → Option Watch → Option (Asked M)
+asking q None = None
+asking q (Some w) = Some (record { question = q; watch = w })
+
+abbrev pub watchOf : {M : Type 0} → Option (Asked M) → Option Watch
+watchOf None = None
+watchOf (Some a) = Some (a .watch)
+
 -- what becomes of an exchange, and what is said of it
 pub record Outcome : Type 0 where
   pub next : Option Watch

@@ -11,7 +11,7 @@ pub struct Delivery {
     pub rfci: u8,
     pub fqc: u8,
     pub gap: u8,
-    pub place: u8,
+    pub place: usize,
     pub subflows: Places,
 }
 
