@@ -1,8 +1,8 @@
 -- What a store holds after one frame more, and after one less.
-use mathlib.Core.Path.{_≡_, refl, sym, ap, _∙_, subst}
+use mathlib.Core.Path.{_≡_, sym, ap, _∙_, subst}
 use mathlib.Core.Bool.{true}
-use mathlib.Core.List.{List, [], _∷_, _++_, map}
-use Prim.Native.Nat.{ℕ, zero, suc, _+_, _-_, _<_, _≤_}
+use mathlib.Core.List.{[], _∷_, _++_, map}
+use Prim.Native.Nat.{ℕ, suc, _+_, _-_, _<_, _≤_}
 use native.Mathlib.Omega.{arith}
 use native.Mathlib.Numerals.{add-one}
 use lib.ListN.{length, set, getD}
@@ -36,11 +36,11 @@ put-at s at cell = record { cells = set (s .cells) at cell; head = s .head; used
 
 module _ (s : Store) (at : ℕ) (cell : Cell) (wide : length (s .cells) ≡ 32) (sound : Sound s) (room : s .used < s .size) (is : at ≡ place (s .size) (s .head) (s .used)) where
   pub inUse-put : inUse (put-at s at cell) ≡ inUse s ++ cell ∷ []
-  inUse-put = rw (is, add-one) (window-push bare (s .cells) (s .size) (s .head) (s .used) cell (sound .begun) room (omega (arith, sound .most)))
+  inUse-put = rw (is, add-one) (window-push bare (s .cells) (s .size) (s .head) (s .used) cell (sound .begun) room (omega (arith, sound .few)))
 
   pub sound-put : Filled cell → Sound (put-at s at cell)
   sound-put f = record {
-    most = sound .most;
+    few = sound .few;
     begun = sound .begun;
     within = omega arith;
     filled = each-filled (put-at s at cell) (subst (All Filled) (sym inUse-put) (all-push Filled (inUse s) cell (all-filled s (sound .filled)) f));
@@ -60,7 +60,7 @@ module _ (s : Store) (at : ℕ) (sound : Sound s) (some : 0 < s .used) (is : at 
 
   pub sound-cut : Sound (cut s at)
   sound-cut = record {
-    most = sound .most;
+    few = sound .few;
     begun = rw is (place-below (s .size) (s .head) 1 (sound .begun) (omega (arith, sound .begun)));
     within = omega (arith, sound .within);
     filled = each-filled (cut s at) (subst (All Filled) inUse-cut (all-filled s (sound .filled)) .1);

@@ -6,6 +6,7 @@ use Rattle.std.specs.declared.result.Result.{Result}
 use Rattle.std.specs.declared.result.Result.the-variants.{Ok, Err}
 use Rattle.frames.specs.declared.refusal.Refusal.{Refusal}
 use Rattle.frames.specs.declared.refusal.Refusal.the-variants.{SettingRange}
+use Rattle.cells.specs.Bounds.{most}
 use Rattle.cells.specs.declared.count.CellCount.{CellCount}
 
 -- what an answer of the code says
@@ -15,4 +16,4 @@ asCount (Err e) = Err e
 
 -- 1 to 32
 abbrev pub countIn : ℕ → Result ℕ Refusal
-countIn n = cond (ltb n 1 || ltb 32 n) (Err SettingRange) (Ok n)
+countIn n = cond (ltb n 1 || ltb most n) (Err SettingRange) (Ok n)

@@ -8,6 +8,7 @@ use lib.ListN.{length, take, getD}
 use Rattle.frames.specs.Frame.{longest}
 use Rattle.lines.specs.Meaning.{fits}
 use Rattle.lines.specs.Circle.{window}
+use Rattle.cells.specs.Bounds.{most}
 use Rattle.cells.specs.declared.store.Cell.{Cell}
 use Rattle.cells.specs.declared.store.Store.{Store}
 
@@ -44,7 +45,7 @@ AllFilled s = (k : ℕ) → k < s .used → Filled (getD (inUse s) k bare)
 
 -- places in range, and frames in the cells in use
 pub record Sound (s : Store) : Type 0 where
-  pub most : s .size ≤ 32
+  pub few : s .size ≤ most
   pub begun : s .head < s .size
   pub within : s .used ≤ s .size
   pub filled : AllFilled s

@@ -6,9 +6,13 @@ ghost use Prim.Native.Nat.{_+_, _<_, _≤_};
 ghost use lib.ListN.{length, drop};
 ghost use Rattle.frames.specs.Frame.{longest};
 ghost use Rattle.lines.specs.Meaning.{Framed};
+ghost use Rattle.cells.specs.Bounds.{most};
 ghost use Rattle.cells.specs.Held.{Sound, Filled, frameOf, oldest, held, free};
 use frames::octets::LONGEST;
 use lines::turning::step;
+
+// The most cells that a line can have.
+pub(crate) const MOST: usize = 32;
 
 #[derive(Clone, Copy)]
 pub(crate) struct Cell {
@@ -41,7 +45,7 @@ impl Cell {
 
 #[derive(Drop)]
 pub(crate) struct Store {
-    cells: [Cell; 32],
+    cells: [Cell; MOST],
     head: usize,
     pub(crate) used: usize,
     pub(crate) size: usize,
@@ -50,7 +54,7 @@ pub(crate) struct Store {
 impl Store {
     pub(crate) fn empty(size: usize) -> Store
         requires some { ⌜ 1 ≤ size ⌝ }
-        requires few { ⌜ size ≤ 32 ⌝ }
+        requires few { ⌜ size ≤ most ⌝ }
         ensures sound { λ r. ⌜ Sound r ⌝ }
         ensures none { λ r. ⌜ held r ≡ [] ⌝ }
         ensures size { λ r. ⌜ r .size ≡ size ⌝ }
@@ -60,7 +64,7 @@ impl Store {
             length: 0,
         };
         Store {
-            cells: [cell; 32],
+            cells: [cell; MOST],
             head: 0,
             used: 0,
             size,

@@ -7,20 +7,19 @@ use lib.Dec.{eqb}
 use borrow.Author.Tests.{eq-eqb}
 use Rattle.std.specs.declared.option.Option.{Option}
 use Rattle.std.specs.declared.option.Option.the-variants.{Some, None}
-use Rattle.exchange.specs.declared.exchange.Exchange.{Exchange}
-use Rattle.exchange.specs.Asking.{Form, Proper, begun, sent, ticked, heard}
+use Rattle.exchange.specs.Asking.{Form, Watch, Proper, begun, sent, ticked, heard}
 use Rattle.exchange.specs.Books.{Mark, opened, announced, asked, waited, same, procedureOf, named, blank, entered, Kept}
 use Rattle.exchange.specs.Course.{Course, asks, ticks, hears, CoursesHold}
-use Rattle.exchange.proofs.Moves.{watched, Booked, begins, moved, kept, blank-idle, entered-++}
-use Rattle.exchange.proofs.Exchanging.{only, Asks, Goes, asking, ticking, hearing}
+use Rattle.exchange.proofs.Moves.{Booked, begins, moved, kept, blank-idle, entered-++}
+use Rattle.exchange.proofs.Exchanging.{only, Asks, Goes, sends, ticking, hearing}
 
-module _ {Q : Type 0} (f : Form Q) (proper : Proper f) (t n : ℕ) (low : 1 ≤ t) (q : Q) (m : ℕ) (lt : m < 4) where
+module _ (f : Form) (proper : Proper f) (t n : ℕ) (low : 1 ≤ t) (m : ℕ) (lt : m < 4) where
   own : (ms : List Mark) → only (f .kind) (f .kind) ms ≡ ms
   own ms = rw (eq-eqb (procedureOf (f .kind)) (procedureOf (f .kind)) refl)
 
-  stands : {ms : List Mark} {o : Option (Exchange Q)} → Course f t n (begun t q m) ms o → Asks o × Booked t n (watched o) (entered ms blank)
+  stands : {ms : List Mark} {o : Option Watch} → Course f t n (begun t m) ms o → Asks o × Booked t n o (entered ms blank)
   stands (asks takes) =
-      (lt, subst (λ x. Booked t n (watched (Some (begun t q m))) (entered (opened ∷ announced ∷ x) blank)) (sym (asking f proper takes t n (f .kind) (begun t q m) lt ∙ own (asked m ∷ []))) (moved t n blank low (begins refl refl) (blank-idle t n)))
+      (lt, subst (λ x. Booked t n (Some (begun t m)) (entered (opened ∷ announced ∷ x) blank)) (sym (sends f proper takes t n (f .kind) (begun t m) lt ∙ own (asked m ∷ []))) (moved t n blank low (begins refl refl) (blank-idle t n)))
   stands (ticks {ms} {b} takes c) =
       let h = stands c in
       let g = ticking f proper takes t n b (h .0) in (
@@ -34,5 +33,5 @@ module _ {Q : Type 0} (f : Form Q) (proper : Proper f) (t n : ℕ) (low : 1 ≤ 
         rw (entered-++ ms, g .says (f .kind), own) (moved t n (entered ms blank) low (g .move) (h .1)),
       )
 
-  pub courses-hold : CoursesHold f t n (begun t q m)
-  courses-hold ms o c = kept t n (watched o) (entered ms blank) (stands c .1)
+  pub courses-hold : CoursesHold f t n (begun t m)
+  courses-hold ms o c = kept t n o (entered ms blank) (stands c .1)

@@ -9,30 +9,8 @@ use borrow.Author.Tests.{eq-eqb, ne-eqb}
 use lib.Dec.{eqb}
 use Rattle.std.specs.declared.option.Option.{Option}
 use Rattle.std.specs.declared.option.Option.the-variants.{Some, None}
-use Rattle.exchange.specs.declared.exchange.Exchange.{Exchange}
+use Rattle.exchange.specs.Asking.{Watch, begun, repeated, less}
 use Rattle.exchange.specs.Books.{Mark, opened, announced, closed, asked, waited, Books, count, blank, waitsOn, waitOn, enter, entered, Balanced, Bounded, Kept}
-
--- an exchange without its question
-pub record Watch : Type 0 where
-  pub ticks : ℕ
-  pub repeats : ℕ
-  pub number : ℕ
-
-abbrev pub watch : {Q : Type 0} → Exchange Q → Watch
-watch e = record { ticks = e .ticks; repeats = e .repeats; number = e .number }
-
-abbrev pub watched : {Q : Type 0} → Option (Exchange Q) → Option Watch
-watched None = None
-watched (Some e) = Some (watch e)
-
-abbrev pub fresh : ℕ → ℕ → Watch
-fresh t number = record { ticks = t; repeats = 0; number = number }
-
-abbrev pub repeated : ℕ → Watch → Watch
-repeated t a = record { ticks = t; repeats = a .repeats + 1; number = a .number }
-
-abbrev pub less : Watch → Watch
-less a = record { ticks = a .ticks - 1; repeats = a .repeats; number = a .number }
 
 room : (r n t : ℕ) → r ≤ n → (r + 1) * t ≤ (1 + n) * t
 room r n t h = let k : r + 1 ≤ 1 + n = omega arith in mul-le-mul-right t k
@@ -140,7 +118,7 @@ module _ (t n : ℕ) where
         };
       }
 
-  onward : (a : Watch) (b : Books) → Running a b → Running (fresh t (a .number + 1)) (enter (asked (a .number + 1)) b)
+  onward : (a : Watch) (b : Books) → Running a b → Running (begun t (a .number + 1)) (enter (asked (a .number + 1)) b)
   onward a b h =
       let k = h .kept .balanced in
       let w = h .kept .bounded in
@@ -189,7 +167,7 @@ module _ (t n : ℕ) where
     lapses : {a : Watch} → a .repeats < n → Move (Some a) (waited ∷ asked (a .number) ∷ []) (Some (repeated t a))
     expires : {a : Watch} → Move (Some a) (waited ∷ closed ∷ []) None
     repeats : {a : Watch} → a .repeats < n → Move (Some a) (asked (a .number) ∷ []) (Some (repeated t a))
-    advances : {a : Watch} → Move (Some a) (asked (a .number + 1) ∷ []) (Some (fresh t (a .number + 1)))
+    advances : {a : Watch} → Move (Some a) (asked (a .number + 1) ∷ []) (Some (begun t (a .number + 1)))
     closes : {a : Watch} → Move (Some a) (closed ∷ []) None
 
   pub moved : {o o′ : Option Watch} {ms : List Mark} (b : Books) → 1 ≤ t → Move o ms o′ → Booked o b → Booked o′ (entered ms b)

@@ -22,23 +22,23 @@ use Rattle.exchange.specs.declared.exchange.Turn.{Turn}
 use Rattle.exchange.specs.declared.exchange.Turn.the-variants.{Onward, Again, Stop}
 use Rattle.exchange.specs.Books.{procedureOf, completes}
 
--- what a kind of question is
-pub record Form (Q : Type 0) : Type 0 where
+-- what a question is
+pub record Form : Type 0 where
   pub kind : Kind
-  -- the frame of a question with a number
-  pub ask : Q → ℕ → List ℕ
+  -- its frame with a number
+  pub frame : ℕ → List ℕ
   -- whether another frame follows the one with a number
-  pub follows : Q → ℕ → Bool
+  pub follows : ℕ → Bool
   -- what an answer leads to
   pub turn : Reply → Turn
-  -- why it ends that is not answered well: after a tick, and otherwise
+  -- why it ends where it is not answered well: after a tick, and otherwise
   pub fails : Bool → Ending
 
 -- a question frame: type 14, no answer, the number, and the procedure
 abbrev pub Headed : Kind → ℕ → List ℕ → Type 0
 Headed k m [] = ⊥
 Headed k m (h ∷ []) = ⊥
-Headed k m (h ∷ p ∷ rest) = (h ≡ 224 + m) × (p ≡ procedureOf k) × (p < 64)
+Headed k m (h ∷ p ∷ rest) = (h ≡ 224 + m) × (p ≡ procedureOf k) × (p < 16)
 
 -- an answer stops nothing as done
 abbrev pub Fails : Turn → Type 0
@@ -46,20 +46,51 @@ Fails Onward = Unit {0}
 Fails Again = Unit {0}
 Fails (Stop c) = completes c ≡ false
 
--- what every kind of question shows
-pub record Proper {Q : Type 0} (f : Form Q) : Type 0 where
-  pub headed : (q : Q) (m : ℕ) → m < 4 → Headed (f .kind) m (f .ask q m)
-  pub few : (q : Q) (m : ℕ) → f .follows q m ≡ true → m < 3
+-- what every question shows
+pub record Proper (f : Form) : Type 0 where
+  pub headed : (m : ℕ) → m < 4 → Headed (f .kind) m (f .frame m)
+  pub few : (m : ℕ) → f .follows m ≡ true → m < 3
   pub failing : (b : Bool) → completes (f .fails b) ≡ false
   pub stopping : (r : Reply) → Fails (f .turn r)
 
+-- an exchange, whatever its question: the ticks that are left, how often the present frame was repeated, and its number
+pub record Watch : Type 0 where
+  pub ticks : ℕ
+  pub repeats : ℕ
+  pub number : ℕ
+
+abbrev pub watch : {Q : Type 0} → Exchange Q → Watch
+watch e = record { ticks = e .ticks; repeats = e .repeats; number = e .number }
+
+-- the exchange of a question
+abbrev pub resumed : {Q : Type 0} → Q → Option Watch → Option (Exchange Q)
+resumed q None = None
+resumed q (Some w) = Some (record { question = q; ticks = w .ticks; repeats = w .repeats; number = w .number })
+
+-- an exchange with the meaning of its question
+pub record Asked (M : Type 0) : Type 0 where
+  pub question : M
+  pub watch : Watch
+
+abbrev pub meant : {Q M : Type 0} → (Q → M) → Option (Exchange Q) → Option (Asked M)
+meant means None = None
+meant means (Some e) = Some (record { question = means (e .question); watch = watch e })
+
+abbrev pub asking : {M : Type 0} → M → Option Watch → Option (Asked M)
+asking q None = None
+asking q (Some w) = Some (record { question = q; watch = w })
+
+abbrev pub watchOf : {M : Type 0} → Option (Asked M) → Option Watch
+watchOf None = None
+watchOf (Some a) = Some (a .watch)
+
 -- what becomes of an exchange, and what is said of it
-pub record Outcome (Q : Type 0) : Type 0 where
-  pub next : Option (Exchange Q)
+pub record Outcome : Type 0 where
+  pub next : Option Watch
   pub says : List Happening
 
-pub record Hearing (Q : Type 0) : Type 0 where
-  pub outcome : Outcome Q
+pub record Hearing : Type 0 where
+  pub outcome : Outcome
   pub answer : Result (Unit {0}) Refusal
 
 -- how a call comes out that brought an answer
@@ -68,41 +99,41 @@ judged Ack = Ok tt
 judged (Nack c) = Ok tt
 judged (Erroneous e) = Err e
 
-abbrev pub ends : {Q : Type 0} → Kind → Ending → Outcome Q
+abbrev pub ends : Kind → Ending → Outcome
 ends k c = record { next = None; says = over k c ∷ [] }
 
 -- a frame that is sent for the first time has all its ticks left
-abbrev pub begun : {Q : Type 0} → ℕ → Q → ℕ → Exchange Q
-begun t q number = record { question = q; ticks = t; repeats = 0; number = number }
+abbrev pub begun : ℕ → ℕ → Watch
+begun t number = record { ticks = t; repeats = 0; number = number }
 
-abbrev pub repeated : {Q : Type 0} → ℕ → Exchange Q → Exchange Q
-repeated t a = record { question = a .question; ticks = t; repeats = a .repeats + 1; number = a .number }
+abbrev pub repeated : ℕ → Watch → Watch
+repeated t a = record { ticks = t; repeats = a .repeats + 1; number = a .number }
 
-abbrev pub less : {Q : Type 0} → Exchange Q → Exchange Q
-less a = record { question = a .question; ticks = a .ticks - 1; repeats = a .repeats; number = a .number }
+abbrev pub less : Watch → Watch
+less a = record { ticks = a .ticks - 1; repeats = a .repeats; number = a .number }
 
 -- takes: the lengths that the line takes; t: the ticks that an answer is waited for; n: how often a frame is repeated
-module _ {Q : Type 0} (f : Form Q) (takes : ℕ → Bool) where
+module _ (f : Form) (takes : ℕ → Bool) where
   -- the frame is sent, and named as handed over or refused
-  abbrev pub sent : Exchange Q → Outcome Q
-  sent a = record { next = Some a; says = sending (takes (length (f .ask (a .question) (a .number)))) (f .ask (a .question) (a .number)) ∷ [] }
+  abbrev pub sent : Watch → Outcome
+  sent a = record { next = Some a; says = sending (takes (length (f .frame (a .number)))) (f .frame (a .number)) ∷ [] }
 
   -- it is sent again if it was repeated fewer than n times, else the exchange ends
-  abbrev pub again : ℕ → ℕ → Ending → Exchange Q → Outcome Q
+  abbrev pub again : ℕ → ℕ → Ending → Watch → Outcome
   again t n c a = cond (ltb (a .repeats) n) (sent (repeated t a)) (ends (f .kind) c)
 
   -- a tick lowers the ticks; at 0 the frame is repeated or the exchange ends
-  abbrev pub ticked : ℕ → ℕ → Exchange Q → Outcome Q
+  abbrev pub ticked : ℕ → ℕ → Watch → Outcome
   ticked t n a = cond (ltb 1 (a .ticks)) (record { next = Some (less a); says = [] }) (again t n (f .fails true) a)
 
   -- an answer leads on to the next frame or the end, to a repeat, or to an end at once
-  abbrev pub turned : ℕ → ℕ → Turn → Exchange Q → Outcome Q
-  turned t n Onward a = cond (f .follows (a .question) (a .number)) (sent (begun t (a .question) (a .number + 1))) (ends (f .kind) Done)
+  abbrev pub turned : ℕ → ℕ → Turn → Watch → Outcome
+  turned t n Onward a = cond (f .follows (a .number)) (sent (begun t (a .number + 1))) (ends (f .kind) Done)
   turned t n Again a = again t n (f .fails false) a
   turned t n (Stop c) a = ends (f .kind) c
 
   -- an answer with another number changes nothing
-  abbrev pub heard : ℕ → ℕ → Reply → ℕ → Exchange Q → Hearing Q
+  abbrev pub heard : ℕ → ℕ → Reply → ℕ → Watch → Hearing
   heard t n reply number a =
       cond (eqb (a .number) number)
       (record { outcome = turned t n (f .turn reply) a; answer = judged reply })

@@ -30,7 +30,7 @@ abbrev pub procedureOf : Kind → ℕ
 procedureOf Initialisation = 0
 procedureOf RateControl = 1
 procedureOf TimeAlignment = 2
-procedureOf HostQuestion = 64
+procedureOf HostQuestion = 16
 
 abbrev pub same : Kind → Kind → Bool
 same j k = eqb (procedureOf j) (procedureOf k)
@@ -39,7 +39,7 @@ same j k = eqb (procedureOf j) (procedureOf k)
 abbrev pub question : Kind → List ℕ → List Mark
 question k [] = []
 question k (h ∷ []) = []
-question k (h ∷ p ∷ rest) = cond (eqb (h / 4) 56 && eqb (p % 64) (procedureOf k)) (asked (h % 4) ∷ []) []
+question k (h ∷ p ∷ rest) = cond (eqb (h / 4) 56 && eqb (p % 16) (procedureOf k)) (asked (h % 4) ∷ []) []
 
 -- what an entry of a report says of kind k
 abbrev pub notes : Kind → Happening → List Mark

@@ -1,6 +1,7 @@
 // An exchange begins, and its books are kept from then on.
 ghost use mathlib.Core.Path.{_≡_};
-ghost use Rattle.exchange.specs.Asking.{begun};
+ghost use Rattle.std.specs.declared.option.Option.the-variants.{Some};
+ghost use Rattle.exchange.specs.Asking.{begun, resumed, watch};
 ghost use Rattle.exchange.specs.Course.{CoursesHold};
 use crate::exchange::Exchange;
 use crate::inquiry::Inquiry;
@@ -11,8 +12,8 @@ impl<Q: Inquiry> Exchange<Q> {
     // A question that is about to be asked. Whatever ticks and answers follow, and whatever the line takes,
     // no number is sent more than 1 + N times, or waited on for more than (1 + N) × T ticks.
     pub fn first(question: Q, number: Number, limits: Limits) -> Exchange<Q>
-        ensures begun { λ r. ⌜ r ≡ begun (limits .ticks) question (number .value) ⌝ }
-        ensures courses { λ r. ⌜ CoursesHold (Q·Inquiry .form) (limits .ticks) (limits .repeats) r ⌝ }
+        ensures begun { λ r. ⌜ Some r ≡ resumed question (Some (begun (limits .ticks) (number .value))) ⌝ }
+        ensures courses { λ r. ⌜ CoursesHold (Q·Inquiry .form question) (limits .ticks) (limits .repeats) (watch r) ⌝ }
     {
         Exchange {
             question,

@@ -19,28 +19,28 @@ pub trait Inquiry: Copy {
     type Answer;
 
     // The kind, the frame for each number, whether a further frame follows, what an answer leads to, and how it fails.
-    ghost form: { Form Self };
+    ghost form: { Self → Form };
     // An answer in this kind's form, and what it leads to.
     ghost reads: { Reply → Self·Answer };
 
     ghost turns: { Self·Answer → Turn };
 
-    law judged: { (r : Reply) → turns (reads r) ≡ form .turn r };
+    law judged: { (q : Self) (r : Reply) → turns (reads r) ≡ form q .turn r };
 
-    law proper: { Proper form };
+    law proper: { (q : Self) → Proper (form q) };
 
-    fn kind() -> Kind
-        ensures { λ r. ⌜ r ≡ form .kind ⌝ };
+    fn kind(&self) -> Kind
+        ensures { λ r. ⌜ r ≡ form (now (self .entry)) .kind ⌝ };
 
     // The constant, as contracts can cite it.
-    fn code() -> u8
-        ensures { λ r. ⌜ r ≡ procedureOf (form .kind) ⌝ };
+    fn code(&self) -> u8
+        ensures { λ r. ⌜ r ≡ procedureOf (form (now (self .entry)) .kind) ⌝ };
 
     fn frame(&self, number: u8) -> Octets
-        ensures { λ r. ⌜ octetsOf r ≡ form .ask (now (self .entry)) number ⌝ };
+        ensures { λ r. ⌜ octetsOf r ≡ form (now (self .entry)) .frame number ⌝ };
 
     fn more(&self, number: u8) -> bool
-        ensures { λ r. ⌜ r ≡ form .follows (now (self .entry)) number ⌝ };
+        ensures { λ r. ⌜ r ≡ form (now (self .entry)) .follows number ⌝ };
 
     fn read(reply: Reply) -> Self::Answer
         ensures { λ r. ⌜ r ≡ reads reply ⌝ };
@@ -48,7 +48,7 @@ pub trait Inquiry: Copy {
     fn turn(answer: Self::Answer) -> Turn
         ensures { λ r. ⌜ r ≡ turns answer ⌝ };
 
-    // How a question ends that is not answered well: after a tick, or after an answer.
-    fn failure(ticked: bool) -> Ending
-        ensures { λ r. ⌜ r ≡ form .fails ticked ⌝ };
+    // How the question ends where it is not answered well: after a tick, or after an answer.
+    fn failure(&self, ticked: bool) -> Ending
+        ensures { λ r. ⌜ r ≡ form (now (self .entry)) .fails ticked ⌝ };
 }

@@ -1,7 +1,7 @@
 // The steps of an exchange.
 ghost use mathlib.Core.Path.{_≡_};
 ghost use Rattle.std.specs.declared.option.Option.the-variants.{Some};
-ghost use Rattle.exchange.specs.Asking.{begun, sent, again, ticked, turned, heard};
+ghost use Rattle.exchange.specs.Asking.{watch, sent, again, ticked, turned, heard};
 ghost use Rattle.exchange.specs.Came.{Came};
 use crate::exchange::Exchange;
 use crate::exchange::Heard;
@@ -19,7 +19,7 @@ use reports::sending::send;
 impl<Q: Inquiry> Exchange<Q> {
     // Sends the present frame.
     pub fn ask<L: Line>(&self, line: &mut L, report: &mut Report)
-        ensures { λ _. ⌜ Came (L·Line .waiting) (sent (Q·Inquiry .form) (L·Line .takes (now (line .entry))) (now (self .entry))) (Some (now (self .entry))) (now (line .entry)) (now (line .exit)) (now (report .entry)) (now (report .exit)) ⌝ }
+        ensures { λ _. ⌜ Came (L·Line .waiting) (sent (Q·Inquiry .form (now (self .entry) .question)) (L·Line .takes (now (line .entry))) (watch (now (self .entry)))) (now (self .entry) .question) (Some (now (self .entry))) (now (line .entry)) (now (line .exit)) (now (report .entry)) (now (report .exit)) ⌝ }
     {
         let frame = self.question.frame(self.number);
         send(line, &frame, report);
@@ -33,7 +33,7 @@ impl<Q: Inquiry> Exchange<Q> {
         line: &mut L,
         report: &mut Report,
     ) -> Option<Exchange<Q>>
-        ensures { λ r. ⌜ Came (L·Line .waiting) (again (Q·Inquiry .form) (L·Line .takes (now (line .entry))) (limits .ticks) (limits .repeats) ending self) r (now (line .entry)) (now (line .exit)) (now (report .entry)) (now (report .exit)) ⌝ }
+        ensures { λ r. ⌜ Came (L·Line .waiting) (again (Q·Inquiry .form (self .question)) (L·Line .takes (now (line .entry))) (limits .ticks) (limits .repeats) ending (watch self)) (self .question) r (now (line .entry)) (now (line .exit)) (now (report .entry)) (now (report .exit)) ⌝ }
     {
         if self.repeats < limits.repeats {
             let repeated = Exchange {
@@ -45,7 +45,7 @@ impl<Q: Inquiry> Exchange<Q> {
             repeated.ask(line, report);
             return Some(repeated);
         }
-        report.note(Entry::Ended(Q::kind(), ending));
+        report.note(Entry::Ended(self.question.kind(), ending));
         None
     }
 
@@ -56,7 +56,7 @@ impl<Q: Inquiry> Exchange<Q> {
         line: &mut L,
         report: &mut Report,
     ) -> Option<Exchange<Q>>
-        ensures { λ r. ⌜ Came (L·Line .waiting) (ticked (Q·Inquiry .form) (L·Line .takes (now (line .entry))) (limits .ticks) (limits .repeats) self) r (now (line .entry)) (now (line .exit)) (now (report .entry)) (now (report .exit)) ⌝ }
+        ensures { λ r. ⌜ Came (L·Line .waiting) (ticked (Q·Inquiry .form (self .question)) (L·Line .takes (now (line .entry))) (limits .ticks) (limits .repeats) (watch self)) (self .question) r (now (line .entry)) (now (line .exit)) (now (report .entry)) (now (report .exit)) ⌝ }
     {
         if self.ticks > 1 {
             return Some(Exchange {
@@ -66,7 +66,7 @@ impl<Q: Inquiry> Exchange<Q> {
                 number: self.number,
             });
         }
-        self.repeat(limits, Q::failure(true), line, report)
+        self.repeat(limits, self.question.failure(true), line, report)
     }
 
     // An answer to the present frame.
@@ -77,13 +77,13 @@ impl<Q: Inquiry> Exchange<Q> {
         line: &mut L,
         report: &mut Report,
     ) -> Option<Exchange<Q>>
-        ensures { λ r. ⌜ Came (L·Line .waiting) (turned (Q·Inquiry .form) (L·Line .takes (now (line .entry))) (limits .ticks) (limits .repeats) (Q·Inquiry .form .turn reply) self) r (now (line .entry)) (now (line .exit)) (now (report .entry)) (now (report .exit)) ⌝ }
+        ensures { λ r. ⌜ Came (L·Line .waiting) (turned (Q·Inquiry .form (self .question)) (L·Line .takes (now (line .entry))) (limits .ticks) (limits .repeats) (Q·Inquiry .form (self .question) .turn reply) (watch self)) (self .question) r (now (line .entry)) (now (line .exit)) (now (report .entry)) (now (report .exit)) ⌝ }
     {
         match Q::turn(Q::read(reply)) {
             Turn::Onward => self.go_on(limits, line, report),
-            Turn::Again => self.repeat(limits, Q::failure(false), line, report),
+            Turn::Again => self.repeat(limits, self.question.failure(false), line, report),
             Turn::Stop(ending) => {
-                report.note(Entry::Ended(Q::kind(), ending));
+                report.note(Entry::Ended(self.question.kind(), ending));
                 None
             }
         }
@@ -96,7 +96,7 @@ impl<Q: Inquiry> Exchange<Q> {
         line: &mut L,
         report: &mut Report,
     ) -> Option<Exchange<Q>>
-        ensures { λ r. ⌜ Came (L·Line .waiting) (turned (Q·Inquiry .form) (L·Line .takes (now (line .entry))) (limits .ticks) (limits .repeats) Turn.Onward self) r (now (line .entry)) (now (line .exit)) (now (report .entry)) (now (report .exit)) ⌝ }
+        ensures { λ r. ⌜ Came (L·Line .waiting) (turned (Q·Inquiry .form (self .question)) (L·Line .takes (now (line .entry))) (limits .ticks) (limits .repeats) Turn.Onward (watch self)) (self .question) r (now (line .entry)) (now (line .exit)) (now (report .entry)) (now (report .exit)) ⌝ }
     {
         if self.question.more(self.number) {
             let following = Exchange {
@@ -108,7 +108,7 @@ impl<Q: Inquiry> Exchange<Q> {
             following.ask(line, report);
             return Some(following);
         }
-        report.note(Entry::Ended(Q::kind(), Ending::Done));
+        report.note(Entry::Ended(self.question.kind(), Ending::Done));
         None
     }
 
@@ -121,8 +121,8 @@ impl<Q: Inquiry> Exchange<Q> {
         line: &mut L,
         report: &mut Report,
     ) -> Heard<Q>
-        ensures came { λ r. ⌜ Came (L·Line .waiting) (heard (Q·Inquiry .form) (L·Line .takes (now (line .entry))) (limits .ticks) (limits .repeats) reply number self .outcome) (r .next) (now (line .entry)) (now (line .exit)) (now (report .entry)) (now (report .exit)) ⌝ }
-        ensures answer { λ r. ⌜ r .answer ≡ heard (Q·Inquiry .form) (L·Line .takes (now (line .entry))) (limits .ticks) (limits .repeats) reply number self .answer ⌝ }
+        ensures came { λ r. ⌜ Came (L·Line .waiting) (heard (Q·Inquiry .form (self .question)) (L·Line .takes (now (line .entry))) (limits .ticks) (limits .repeats) reply number (watch self) .outcome) (self .question) (r .next) (now (line .entry)) (now (line .exit)) (now (report .entry)) (now (report .exit)) ⌝ }
+        ensures answer { λ r. ⌜ r .answer ≡ heard (Q·Inquiry .form (self .question)) (L·Line .takes (now (line .entry))) (limits .ticks) (limits .repeats) reply number (watch self) .answer ⌝ }
     {
         if self.number != number {
             return Heard {

@@ -1,11 +1,9 @@
 -- What a write behind a window, and a step of its head, leave.
-use mathlib.Core.Path.{_≡_, refl, sym, ap, _∙_, subst}
-use mathlib.Core.Bool.{cond, true, false}
-use mathlib.Core.Logic.{_⊎_, inl, inr, _≢_, ⊎-elim}
+use mathlib.Core.Path.{_≡_, refl, sym, ap, _∙_}
+use mathlib.Core.Logic.{_⊎_, _≢_, ⊎-elim}
 use mathlib.Core.List.{List, [], _∷_, _++_}
 use Prim.Native.Nat.{ℕ, zero, suc, _+_, _-_, _<_, _≤_}
 use native.Mathlib.Omega.{arith}
-use lib.Dec.{ltb}
 use lib.ListN.{getD, set, length, take, drop}
 use Rattle.std.proofs.shelf.Lists.{getD-set-same, getD-set-other, ext-getD, getD-append-left, getD-append-right, length-append}
 use Rattle.std.proofs.shelf.Tests.{cases-lt}

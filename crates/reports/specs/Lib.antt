@@ -1,2 +1,3 @@
 pub mod Endings
 pub mod Said
+pub mod Effects

@@ -5,9 +5,10 @@ use mathlib.Core.Bool.{Bool, true, false}
 use mathlib.Core.List.{List, [], _∷_, _++_, map}
 use lib.ListN.{take}
 use Rattle.frames.specs.Frame.{octetsOf}
+use Rattle.set_in_force.specs.declared.place.Place.{Place}
+use Rattle.set_in_force.specs.Places.{placesIn}
 use Rattle.reports.specs.declared.ending.Kind.{Kind}
 use Rattle.reports.specs.declared.ending.Ending.{Ending}
-use Rattle.reports.specs.declared.report.Subflow.{Subflow}
 use Rattle.reports.specs.declared.report.Delivery.{Delivery}
 use Rattle.reports.specs.declared.report.Entry.{Entry}
 use Rattle.reports.specs.declared.report.Entries.{Entries}
@@ -20,7 +21,7 @@ pub record Brought : Type 0 where
   pub fqc : ℕ
   pub gap : ℕ
   pub place : ℕ
-  pub subflows : List Subflow
+  pub subflows : List Place
 
 -- what happened, frames by their octets
 pub data Happening : Type 0 where
@@ -31,7 +32,7 @@ pub data Happening : Type 0 where
   refused : List ℕ → Happening
 
 abbrev pub brought : Delivery → Brought
-brought d = record { rfci = d .rfci; fqc = d .fqc; gap = d .gap; place = d .place; subflows = take (d .count) (d .subflows) }
+brought d = record { rfci = d .rfci; fqc = d .fqc; gap = d .gap; place = d .place; subflows = placesIn (d .subflows) }
 
 abbrev pub happened : Entry → Happening
 happened (Started k) = began k

@@ -3,13 +3,7 @@ ghost use Prim.Native.Nat.{_≤_};
 use crate::ending::Ending;
 use crate::ending::Kind;
 use frames::octets::Octets;
-
-// A subflow of a delivered frame: its first bit in the payload, and its length in bits.
-#[derive(Clone, Copy)]
-pub struct Subflow {
-    pub first: u16,
-    pub bits: u16,
-}
+use set_in_force::place::Places;
 
 // User data that was received: its combination, frame quality, the gap before it, the octet where its payload begins, and its subflows.
 #[derive(Clone, Copy)]
@@ -17,9 +11,8 @@ pub struct Delivery {
     pub rfci: u8,
     pub fqc: u8,
     pub gap: u8,
-    pub place: u8,
-    pub subflows: [Subflow; 7],
-    pub count: usize,
+    pub place: usize,
+    pub subflows: Places,
 }
 
 #[derive(Clone, Copy)]

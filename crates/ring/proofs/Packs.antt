@@ -13,6 +13,7 @@ use Rattle.frames.specs.Frame.{longest}
 use Rattle.lines.specs.Meaning.{Framed}
 use Rattle.std.proofs.shelf.Ways.{tells}
 use Rattle.lines.proofs.Turns.{length-window}
+use Rattle.ring.specs.Bounds.{least}
 use Rattle.ring.specs.Packed.{packed, unpacked, content, held, oldest, Round, Sound, EachFramed, cost, room}
 use Rattle.ring.specs.declared.store.Store.{Store}
 
@@ -57,10 +58,10 @@ all-framed fs f = all-from-getD Framed fs [] f
 each-framed : (fs : List (List ℕ)) → All Framed fs → EachFramed fs
 each-framed fs a k h = all-getD Framed fs k [] h a
 
-pub sound-is : (s : Store) (fs : List (List ℕ)) → Round s → longest + 2 ≤ s .size → content s ≡ packed fs → EachFramed fs → Sound s
+pub sound-is : (s : Store) (fs : List (List ℕ)) → Round s → least ≤ s .size → content s ≡ packed fs → EachFramed fs → Sound s
 sound-is s fs r l e f =
     let is = held-is s fs e in
-    record { round = r; least = l; whole = ap packed is ∙ sym e; framed = subst EachFramed (sym is) f }
+    record { round = r; large = l; whole = ap packed is ∙ sym e; framed = subst EachFramed (sym is) f }
 
 -- the octets of packed frames are what the frames cost
 pub length-cost : (fs : List (List ℕ)) → length (packed fs) ≡ cost fs
@@ -84,7 +85,7 @@ module _ (s s′ : Store) (sound : Sound s) (f : List ℕ) (e : content s′ ≡
 
   pub sound-push : Round s′ → s′ .size ≡ s .size → Framed f → Sound s′
   sound-push r l framed =
-      sound-is s′ (held s ++ f ∷ []) r (omega (arith, sound .least)) content-push
+      sound-is s′ (held s ++ f ∷ []) r (omega (arith, sound .large)) content-push
       (each-framed (held s ++ f ∷ []) (all-push Framed (held s) f (all-framed (held s) (sound .framed)) framed))
 
 -- the frame that is first in packed octets, if there are any

@@ -1,3 +1,4 @@
+pub mod Bounds
 pub mod Sizes
 pub mod Packed
 pub mod Waiting

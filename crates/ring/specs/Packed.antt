@@ -5,9 +5,9 @@ use mathlib.Core.List.{List, [], _∷_, _++_}
 use Prim.Native.Nat.{ℕ, zero, suc, _+_, _*_, _/_, _%_, _<_, _≤_}
 use lib.Dec.{leb}
 use lib.ListN.{length, take, drop, getD}
-use Rattle.frames.specs.Frame.{longest}
 use Rattle.lines.specs.Meaning.{Framed, fits}
 use Rattle.lines.specs.Circle.{window}
+use Rattle.ring.specs.Bounds.{least, greatest}
 use Rattle.ring.specs.declared.store.Store.{Store}
 
 -- frames as octets, one behind the other
@@ -45,7 +45,7 @@ oldest s = getD (held s) 0 []
 
 -- places in range
 pub record Round (s : Store) : Type 0 where
-  pub most : s .size ≤ 65536
+  pub most : s .size ≤ greatest
   pub begun : s .head < s .size
   pub within : s .used ≤ s .size
 
@@ -56,6 +56,6 @@ EachFramed fs = (k : ℕ) → k < length fs → Framed (getD fs k [])
 -- the octets in use are the frames, and nothing else
 pub record Sound (s : Store) : Type 0 where
   pub round : Round s
-  pub least : longest + 2 ≤ s .size
+  pub large : least ≤ s .size
   pub whole : packed (held s) ≡ content s
   pub framed : EachFramed (held s)

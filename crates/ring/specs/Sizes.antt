@@ -1,12 +1,12 @@
 -- How many octets a ring may have.
 use mathlib.Core.Bool.{cond, _||_}
-use Prim.Native.Nat.{ℕ, _+_}
+use Prim.Native.Nat.{ℕ}
 use lib.Dec.{ltb}
 use Rattle.std.specs.declared.result.Result.{Result}
 use Rattle.std.specs.declared.result.Result.the-variants.{Ok, Err}
-use Rattle.frames.specs.Frame.{longest}
 use Rattle.frames.specs.declared.refusal.Refusal.{Refusal}
 use Rattle.frames.specs.declared.refusal.Refusal.the-variants.{SettingRange}
+use Rattle.ring.specs.Bounds.{least, greatest}
 use Rattle.ring.specs.declared.size.RingSize.{RingSize}
 
 -- what an answer of the code says
@@ -14,6 +14,6 @@ abbrev pub asSize : Result RingSize Refusal → Result ℕ Refusal
 asSize (Ok r) = Ok (r .size)
 asSize (Err e) = Err e
 
--- 514 to 65,536: a frame of the greatest length has room in the smallest
+-- 514 to 65,536
 abbrev pub sizeIn : ℕ → Result ℕ Refusal
-sizeIn n = cond (ltb n (longest + 2) || ltb 65536 n) (Err SettingRange) (Ok n)
+sizeIn n = cond (ltb n least || ltb greatest n) (Err SettingRange) (Ok n)

@@ -5,6 +5,7 @@ ghost use mathlib.Core.List.{[], _∷_, _++_};
 ghost use Prim.Native.Nat.{_+_, _<_, _≤_};
 ghost use lib.ListN.{length, take, drop};
 ghost use Rattle.frames.specs.Frame.{longest};
+ghost use Rattle.ring.specs.Bounds.{least, greatest};
 ghost use Rattle.ring.specs.Packed.{Round, Sound, content, held, oldest, cost, room};
 use frames::octets::LONGEST;
 use lines::turning::step;
@@ -103,8 +104,8 @@ impl Store {
     }
 
     pub(crate) fn empty(size: usize) -> Store
-        requires least { ⌜ longest + 2 ≤ size ⌝ }
-        requires most { ⌜ size ≤ 65536 ⌝ }
+        requires large { ⌜ least ≤ size ⌝ }
+        requires most { ⌜ size ≤ greatest ⌝ }
         ensures sound { λ r. ⌜ Sound r ⌝ }
         ensures none { λ r. ⌜ held r ≡ [] ⌝ }
         ensures size { λ r. ⌜ r .size ≡ size ⌝ }

@@ -4,7 +4,7 @@ ghost use mathlib.Core.Bool.{true};
 ghost use Prim.Native.Nat.{_≤_, _<_};
 ghost use lib.ListN.{length};
 ghost use Rattle.std.specs.Options.{Cases as BySome};
-ghost use Rattle.sets.specs.Rows.{rows, bits, tableSound};
+ghost use Rattle.sets.specs.Rows.{rows, tableSound};
 ghost use Rattle.set_in_force.specs.Places.{item};
 ghost use Rattle.set_in_force.specs.Looks.{indexOf, told, lookedUp, asFound, asRow, rfciOf, highestOf};
 use super::in_force::InForce;
@@ -25,18 +25,6 @@ pub(crate) fn find(table: &Table, rfci: u8) -> Option<usize>
         }
     }
     None
-}
-
-// The bits of sizes that are few together.
-fn total(sizes: &[u16]) -> u16
-    requires { ⌜ bits (now sizes) ≤ 4000 ⌝ }
-    ensures { λ r. ⌜ r ≡ bits (now (sizes .entry)) ⌝ }
-{
-    let mut sum = 0;
-    for size in sizes {
-        sum += *size;
-    }
-    sum
 }
 
 // The combination at a place of the table.
@@ -62,12 +50,12 @@ fn tell(table: &Table, index: usize) -> Option<Entry>
     }
     let subflows = table.opening.subflows as usize;
     let combination = table.combinations[index];
-    let sizes = &combination.sizes[0..subflows];
+    let (places, bits) = place_all(&combination.sizes[0..subflows]);
     Some(Entry {
         index,
-        bits: total(sizes),
+        bits,
         allowed: combination.allowed,
-        places: place_all(sizes),
+        places,
     })
 }
 

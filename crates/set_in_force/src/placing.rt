@@ -7,11 +7,12 @@ ghost use Rattle.set_in_force.specs.Places.{placesFrom, placesIn, item};
 use super::place::Place;
 use super::place::Places;
 
-// The places of the subflows of these sizes.
-pub(crate) fn place_all(sizes: &[u16]) -> Places
+// The places of the subflows of these sizes, and their bits in all.
+pub(crate) fn place_all(sizes: &[u16]) -> (Places, u16)
     requires few { ⌜ length (now sizes) ≤ 7 ⌝ }
     requires bits { ⌜ bits (now sizes) ≤ 4000 ⌝ }
-    ensures { λ r. ⌜ placesIn r ≡ placesFrom 0 (now (sizes .entry)) ⌝ }
+    ensures places { λ r. ⌜ placesIn (r .0) ≡ placesFrom 0 (now (sizes .entry)) ⌝ }
+    ensures bits { λ r. ⌜ r .1 ≡ bits (now (sizes .entry)) ⌝ }
 {
     let mut cells = [Place { first: 0, bits: 0 }; 7];
     let mut first = 0;
@@ -19,10 +20,11 @@ pub(crate) fn place_all(sizes: &[u16]) -> Places
         cells[k] = Place { first, bits: *size };
         first += *size;
     }
-    Places {
+    let places = Places {
         cells,
         count: sizes.len(),
-    }
+    };
+    (places, first)
 }
 
 fn place_at(places: &[Place], subflow: usize) -> Option<Place>

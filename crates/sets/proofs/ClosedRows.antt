@@ -5,10 +5,10 @@ use Prim.Native.Nat.{_≤_}
 use native.Mathlib.Omega.{arith}
 use lib.ListN.{length}
 use Rattle.sets.specs.declared.closed.Set.{Set}
-use Rattle.sets.specs.Rows.{rows, Sound}
+use Rattle.sets.specs.Rows.{rows, SoundTable}
 use Rattle.sets.proofs.Rows.{rows-count}
 
-pub set-sound : (s : Set) → Sound (s .table .opening .subflows) (s .table .opening .timed) (s .table .opening .«data_type») (rows (s .table))
+pub set-sound : (s : Set) → SoundTable (s .table)
 set-sound s =
     let o = s .table .opening in
     let l = rows-count (s .table) (let w = s .whole in let r = s .room in omega arith) in

@@ -61,3 +61,7 @@ pub record Sound (n : ℕ) (ti : Bool) (type : ℕ) (rs : List Row) : Type 0 whe
   pub rows : 1 ≤ length rs
   pub room : length rs ≤ 32
   pub sound : sound n ti rs ≡ true
+
+-- the same of a table
+abbrev pub SoundTable : Table → Type 0
+SoundTable t = Sound (t .opening .subflows) (t .opening .timed) (t .opening .«data_type») (rows t)

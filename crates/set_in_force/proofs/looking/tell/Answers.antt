@@ -18,15 +18,8 @@ returns-then-index-table c =
     let e = item-past (rows t) (c .args .index) (omega arith) in
     record { is = ap (told (c .args .index)) (sym e); few = tt }
 
-pub total-requires : need.total-requires
-total-requires c κs =
-    let t = c .args .table .now in
-    let room : t .count ≤ length (t .combinations) = search needs in
-    let f = row-fit t (c .args .index) blank (c .pre .sound) (omega arith) room in
-    simp sub-zero (f .bits)
-
-pub place-all-requires : need.place-all-requires
-place-all-requires c κs =
+pub place-all-bits-requires : need.place-all-bits-requires
+place-all-bits-requires c κs =
     let t = c .args .table .now in
     let room : t .count ≤ length (t .combinations) = search needs in
     let f = row-fit t (c .args .index) blank (c .pre .sound) (omega arith) room in
@@ -38,7 +31,7 @@ returns c =
     let room : t .count ≤ length (t .combinations) = search needs in
     let f = row-fit t (c .args .index) blank (c .pre .sound) (omega arith) room in
     let e = row-at t (c .args .index) blank (omega arith) room in
-    let b = simp sub-zero at (c .total .ensures) in
-    let p = simp sub-zero at (c .place-all .ensures) in
+    let b = simp sub-zero at (c .place-all-bits .ensures .bits) in
+    let p = simp sub-zero at (c .place-all-bits .ensures .places) in
     let x = ap (told (c .args .index)) (sym e) in
     record { is = cc; few = omega (arith, f .bits) }

@@ -36,4 +36,8 @@ returns c =
     let k = c .loop-k .k in
     let kk : length ss ≡ k = omega arith in
     let e = places-all (c .loop-k .first) ss k (omega arith) in
-    ap (λ j. take j (c .loop-k .cells)) kk ∙ sym (append-nil (take k (c .loop-k .cells))) ∙ ap (λ xs. take k (c .loop-k .cells) ++ xs) (sym e) ∙ c .loop-k .inv .0
+    let b = bits-all ss k (omega arith) in
+    record {
+      places = ap (λ j. take j (c .loop-k .cells)) kk ∙ sym (append-nil (take k (c .loop-k .cells))) ∙ ap (λ xs. take k (c .loop-k .cells) ++ xs) (sym e) ∙ c .loop-k .inv .0;
+      bits = omega (arith, c .loop-k .inv .1);
+    }

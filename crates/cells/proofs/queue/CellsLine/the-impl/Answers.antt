@@ -1,10 +1,8 @@
-use mathlib.Core.Path.{_≡_, sym, ap, _∙_}
 use native.Mathlib.Omega.{arith}
 use Prim.Native.Nat.{_≤_}
 use lib.ListN.{length}
 use Rattle.std.proofs.shelf.Lists.{length-take-le}
 use Rattle.std.proofs.shelf.Elements.{all-map, all-weaker}
-use Rattle.std.proofs.shelf.Ways.{tells}
 use Rattle.lines.specs.Meaning.{Framed}
 use Rattle.cells.specs.Held.{Filled, frameOf, inUse}
 use Rattle.cells.proofs.Moves.{all-filled}

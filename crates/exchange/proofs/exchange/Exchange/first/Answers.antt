@@ -7,5 +7,5 @@ pub returns : need.returns
 returns g c =
     record {
       begun = refl;
-      courses = courses-hold (g .Q·Inquiry .form) (g .Q·Inquiry·met .proper) (c .args .limits .ticks) (c .args .limits .repeats) (c .args .limits .some) (c .args .question) (c .args .number .value) (c .args .number .below);
+      courses = courses-hold (g .Q·Inquiry .form (c .args .question)) (g .Q·Inquiry·met .proper (c .args .question)) (c .args .limits .ticks) (c .args .limits .repeats) (c .args .limits .some) (c .args .number .value) (c .args .number .below);
     }

@@ -1,4 +1,4 @@
-use mathlib.Core.Path.{_≡_, refl, sym, ap, _∙_}
+use mathlib.Core.Path.{_≡_, sym, ap, _∙_}
 use mathlib.Core.List.{_++_}
 use borrow.Author.Needs.{needs}
 use borrow.Rule.Slice.PartMut.{putMid}
@@ -6,7 +6,6 @@ use native.Mathlib.Omega.{arith}
 use Prim.Native.Nat.{_+_, _-_, _≤_}
 use lib.ListN.{length, take, drop}
 use Rattle.std.proofs.shelf.Lists.{places}
-use Rattle.lines.specs.Circle.{window}
 use Rattle.lines.proofs.Turns.{window-front}
 use Rattle.ring.specs.Packed.{content}
 use Rattle.ring.proofs.Pastes.{part-flat, part-wrap, laid}

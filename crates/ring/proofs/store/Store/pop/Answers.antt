@@ -1,7 +1,7 @@
 use mathlib.Core.Path.{_≡_, ap, sym, _∙_}
-use mathlib.Core.List.{[], _∷_, _++_}
+use mathlib.Core.List.{_∷_, _++_}
 use native.Mathlib.Omega.{arith}
-use Prim.Native.Nat.{_+_, _*_, _≤_}
+use Prim.Native.Nat.{_+_, _*_}
 use lib.ListN.{length, drop, length-append}
 use Rattle.lines.proofs.Turns.{length-window}
 use Rattle.ring.specs.Packed.{content, oldest, packed, held, cost}
@@ -34,7 +34,7 @@ returns c =
     let first : held s ≡ oldest s ∷ held s₃ = held-first s sound some ∙ ap (λ x. oldest s ∷ x) (sym (held-is s₃ (drop 1 (held s)) e)) in
     let long = read-len s sound some _ _ _ _ a b in
     record {
-      sound = sound-is s₃ (drop 1 (held s)) (c .read .ensures .round) (omega (arith, sound .least, size)) e (rest-framed s sound some);
+      sound = sound-is s₃ (drop 1 (held s)) (c .read .ensures .round) (omega (arith, sound .large, size)) e (rest-framed s sound some);
       held = first;
       size = size;
       cost = ap cost first ∙ ap (λ k. k + 2 + cost (held s₃)) (sym long);

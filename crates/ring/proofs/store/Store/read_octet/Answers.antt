@@ -1,7 +1,6 @@
-use mathlib.Core.Path.{_≡_, refl}
+use mathlib.Core.Path.{refl}
 use borrow.Author.Needs.{needs}
 use native.Mathlib.Omega.{arith}
-use lib.ListN.{length}
 use Rattle.lines.proofs.Turns.{window-cut}
 use Rattle.ring.proofs.store.Store.read_octet.Needs as need
 

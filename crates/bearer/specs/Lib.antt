@@ -1,0 +1,4 @@
+pub mod Bearing
+pub mod Errors
+pub mod Traffics
+pub mod Allowing

@@ -1,0 +1,2 @@
+// The links of a closed set as frames.
+pub mod framing;

@@ -1,0 +1,9 @@
+pub mod Parts
+pub mod Steps
+pub mod Whole
+pub mod Room
+pub mod Holds
+pub mod Judges
+pub mod Backs
+pub mod Sounds
+pub mod Returns

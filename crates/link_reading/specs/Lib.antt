@@ -1,0 +1,4 @@
+pub mod Layout
+pub mod Adding
+pub mod Holding
+pub mod Laws
