@@ -1,6 +1,6 @@
 -- The payload of a rate question: the count of marks, and the marks from RFCI 0 on, eight to an octet, the first one highest.
 use mathlib.Core.List.{List, [], _∷_}
-use mathlib.Core.Bool.{Bool, true, false, cond}
+use mathlib.Core.Bool.{Bool, false, cond}
 use Prim.Native.Nat.{ℕ, zero, suc, _+_, _*_}
 use lib.ListN.{length, getD, drop}
 use Rattle.building.specs.Building.{questionFrame}

@@ -5,7 +5,7 @@ use Prim.Native.Nat.{ℕ, _+_, _-_, _*_, _/_, _%_, _^_}
 use lib.Dec.{eqb, leb}
 use lib.ListN.{length, getD, take}
 use Rattle.std.specs.declared.result.Result.{Result}
-use Rattle.std.specs.declared.result.Result.the-variants.{Ok, Err}
+use Rattle.std.specs.declared.result.Result.the-variants.{Err}
 use Rattle.frames.specs.declared.«data_type».DataType.{DataType}
 use Rattle.frames.specs.declared.«data_type».DataType.the-variants.{Checked, Plain}
 use Rattle.frames.specs.declared.refusal.Refusal.{Refusal}

@@ -1,6 +1,6 @@
 // Padding: the bits after the last one of the payload are sent as 0.
 ghost use mathlib.Core.Path.{_≡_};
-ghost use Prim.Native.Nat.{_+_, _/_, _%_, _<_};
+ghost use Prim.Native.Nat.{_/_, _%_, _<_};
 ghost use lib.ListN.{length};
 ghost use Rattle.frames.specs.Joined.{held, fitting};
 ghost use Rattle.frames.specs.Extent.{octetsFor};

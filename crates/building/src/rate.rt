@@ -1,12 +1,10 @@
 // A rate question: how many marks follow, and the marks.
 ghost use mathlib.Core.Path.{_≡_};
-ghost use mathlib.Core.Bool.{true, false, cond};
-ghost use Prim.Native.Nat.{_+_, _*_, _/_, _≤_, _<_};
-ghost use lib.ListN.{length, getD, take, drop};
+ghost use Prim.Native.Nat.{_+_, _*_, _≤_, _<_};
+ghost use lib.ListN.{length, take};
 ghost use Rattle.frames.specs.Frame.{octetsOf};
 ghost use Rattle.frames.specs.Values.{marksOf};
-ghost use Rattle.frames.specs.Extent.{octetsFor};
-ghost use Rattle.building.specs.Rates.{mark, markOctet, markOctets, ratePayload, rateFrame};
+ghost use Rattle.building.specs.Rates.{mark, markOctet, ratePayload, rateFrame};
 use crate::layout::certain;
 use frames::extent::octets_for;
 use frames::mask::RateMask;

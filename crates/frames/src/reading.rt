@@ -1,10 +1,10 @@
 // Frames read from received octets.
 ghost use mathlib.Core.Path.{_≡_};
-ghost use Prim.Native.Nat.{_≤_, _+_, _*_, _/_, _%_};
-ghost use lib.ListN.{length, getD, drop};
+ghost use Prim.Native.Nat.{_≤_, _+_, _*_, _%_};
+ghost use lib.ListN.{length};
 ghost use Rattle.std.specs.Vec.{made};
 ghost use Rattle.std.specs.declared.result.Result.the-variants.{Ok};
-ghost use Rattle.frames.specs.Contents.{seen, content, contents, controlled, parsed, Fit};
+ghost use Rattle.frames.specs.Contents.{seen, content, contents, parsed, Fit};
 ghost use Rattle.frames.specs.declared.header.PduType.the-variants.{CheckedData, PlainData, Control};
 use crate::data_type::DataType;
 use crate::frame::Frame;

@@ -2,7 +2,7 @@
 -- Assumes nothing.
 use mathlib.Core.Path.{_≡_, refl, sym, ap, subst, _∙_}
 use mathlib.Core.List.{List, [], _∷_, _++_}
-use mathlib.Core.Logic.{_⊎_, inl, inr, ⊎-elim, _≢_}
+use mathlib.Core.Logic.{⊎-elim}
 use Prim.Native.Nat.{ℕ, _+_, _-_, _*_, _/_, _%_, _^_, _<_, _≤_}
 use native.Mathlib.Omega.{arith}
 use borrow.Author.Needs.{needs}
@@ -17,7 +17,6 @@ use Rattle.std.proofs.shelf.Tests.{cases-eq, cond-true, cond-false, eq-eqb, ne-
 use Rattle.std.proofs.shelf.Ways.{tells}
 use Rattle.frames.specs.declared.«data_type».DataType.{DataType}
 use Rattle.frames.specs.declared.«data_type».DataType.the-variants.{Checked, Plain}
-use Rattle.frames.specs.declared.procedure.Procedure.{Procedure}
 use Rattle.frames.specs.declared.procedure.Procedure.the-variants.{Initialisation, RateControl, TimeAlignment, ErrorEvent}
 use Rattle.frames.specs.declared.refusal.Refusal.{Refusal}
 use Rattle.frames.specs.Contents.{Contents, parsed}
@@ -28,8 +27,8 @@ use Rattle.building.specs.UserData.{userFrame, userData, padded, highBits}
 use Rattle.frames.specs.declared.distance.Distance.{Distance}
 use Rattle.payloads.specs.Checks.{summed}
 use Rattle.payloads.specs.Payloads.{rateIn, alignmentIn, eventIn, ackIn, nackIn}
-use Rattle.roundtrip.specs.Messages.{Message, user, link, rate, alignment, event, ack, nack, told, readOn, heard}
-use Rattle.roundtrip.specs.Trips.{Exact, DataIsRead, DataIsBuilt, DataPaddingZero}
+use Rattle.roundtrip.specs.Messages.{user, link, rate, alignment, event, ack, nack, told, readOn, heard}
+use Rattle.roundtrip.specs.Trips.{DataIsRead, DataIsBuilt, DataPaddingZero}
 use Rattle.roundtrip.proofs.Read.{built-is-read}
 use Rattle.roundtrip.proofs.Built.{mapped-from, opened-from, read-is-built}
 

@@ -1,6 +1,6 @@
 -- What is built is read as it was.
 -- Assumes nothing.
-use mathlib.Core.Path.{_≡_, refl, sym, ap, _∙_}
+use mathlib.Core.Path.{_≡_, refl, ap, _∙_}
 use mathlib.Core.List.{List, [], _∷_}
 use mathlib.Core.Bool.{Bool}
 use Prim.Native.Nat.{ℕ, _+_, _*_, _/_, _%_, _<_, _≤_}
@@ -14,7 +14,7 @@ use Rattle.std.specs.declared.option.Option.the-variants.{Some, None}
 use Rattle.std.specs.declared.result.Result.{Result}
 use Rattle.std.specs.declared.result.Result.the-variants.{Ok, Err}
 use Rattle.checksum.specs.Division.{payloadSum}
-use Rattle.checksum.proofs.Linear.{payload-below, header-below}
+use Rattle.checksum.proofs.Linear.{payload-below}
 use Rattle.frames.specs.declared.«data_type».DataType.the-variants.{Checked, Plain}
 use Rattle.frames.specs.declared.procedure.Procedure.{Procedure}
 use Rattle.frames.specs.declared.procedure.Procedure.the-variants.{Initialisation, RateControl, TimeAlignment, ErrorEvent}

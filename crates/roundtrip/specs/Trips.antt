@@ -5,13 +5,11 @@ use mathlib.Core.Bool.{false}
 use mathlib.Core.Logic.{_≢_}
 use Prim.Native.Nat.{ℕ, _+_, _-_, _*_, _/_, _%_, _^_, _<_, _≤_}
 use lib.ListN.{length, getD, drop}
-use Rattle.std.specs.declared.result.Result.{Result}
-use Rattle.std.specs.declared.result.Result.the-variants.{Ok, Err}
+use Rattle.std.specs.declared.result.Result.the-variants.{Ok}
 use Rattle.frames.specs.declared.«data_type».DataType.{DataType}
 use Rattle.frames.specs.declared.«data_type».DataType.the-variants.{Checked, Plain}
 use Rattle.frames.specs.declared.procedure.Procedure.{Procedure}
 use Rattle.frames.specs.declared.procedure.Procedure.the-variants.{Initialisation, RateControl, TimeAlignment, ErrorEvent}
-use Rattle.frames.specs.declared.refusal.Refusal.{Refusal}
 use Rattle.frames.specs.Contents.{Contents, parsed, sumField}
 use Rattle.frames.specs.Contents as seen
 use Rattle.frames.specs.Extent.{octetsFor}

@@ -1,12 +1,10 @@
 use mathlib.Core.Path.{_≡_, ap, _∙_}
-use mathlib.Core.Bool.{Bool}
-use mathlib.Core.List.{List}
-use Prim.Native.Nat.{ℕ, _+_, _-_, _*_, _<_}
+use Prim.Native.Nat.{_+_, _*_}
 use native.Mathlib.Omega.{arith}
 use borrow.Author.Needs.{needs}
 use lib.ListN.{length, take, drop, length-set}
 use Rattle.std.proofs.shelf.Lists.{take-rest}
-use Rattle.building.specs.Rates.{markOctet, markOctets, ratePayload}
+use Rattle.building.specs.Rates.{markOctet, ratePayload}
 use Rattle.building.proofs.Marks.{begun, written-more, ended}
 use Rattle.building.proofs.rate.rate_payload.Needs as need
 

@@ -1,4 +1,4 @@
-use mathlib.Core.Path.{_≡_, ap, _∙_}
+use mathlib.Core.Path.{ap, _∙_}
 use lib.ListN.{length, take, replicate}
 use Prim.Native.Nat.{_+_}
 use Rattle.frames.specs.Joined.{written}

@@ -1,6 +1,5 @@
 use mathlib.Core.Path.{refl}
 use Rattle.checksum.specs.Division.{parityOf, parity, octetBits, bitsOf, reduced}
-use Rattle.worked.specs.Table.{Right}
 use Rattle.worked.proofs.table.worked_frame.Needs as need
 
 pub returns : need.returns
