@@ -48,7 +48,12 @@ impl Bearer {
     }
 
     // A received frame is refused. Where the refusal is one that goes back, an error event tells it.
-    pub fn object<L: Line>(&mut self, refusal: Refusal, line: &mut L, report: &mut Report) -> Result<(), Refusal>
+    pub fn object<L: Line>(
+        &mut self,
+        refusal: Refusal,
+        line: &mut L,
+        report: &mut Report,
+    ) -> Result<(), Refusal>
         ensures { λ r. ⌜ Answered (L·Line .waiting) (objects (L·Line .takes (now (line .entry))) refusal (bearing (now (self .entry)))) (bearing (now (self .exit))) (now (line .entry)) (now (line .exit)) (said (now (report .exit))) r ⌝ }
     {
         report.clear();
@@ -59,7 +64,12 @@ impl Bearer {
     }
 
     // An error that an upper layer reports.
-    pub fn report_error<L: Line>(&mut self, cause: u8, line: &mut L, report: &mut Report) -> Result<(), Refusal>
+    pub fn report_error<L: Line>(
+        &mut self,
+        cause: u8,
+        line: &mut L,
+        report: &mut Report,
+    ) -> Result<(), Refusal>
         ensures { λ r. ⌜ Answered (L·Line .waiting) (reported (L·Line .takes (now (line .entry))) cause (bearing (now (self .entry)))) (bearing (now (self .exit))) (now (line .entry)) (now (line .exit)) (said (now (report .exit))) r ⌝ }
     {
         report.clear();

@@ -76,7 +76,14 @@ impl Traffic {
 
 impl Bearer {
     // Delivers user data, and tells a gap before it to the other end.
-    fn deliver<L: Line>(&mut self, frame: UserFrame<'_>, traffic: Traffic, found: Found, line: &mut L, report: &mut Report) -> Result<(), Refusal>
+    fn deliver<L: Line>(
+        &mut self,
+        frame: UserFrame<'_>,
+        traffic: Traffic,
+        found: Found,
+        line: &mut L,
+        report: &mut Report,
+    ) -> Result<(), Refusal>
         ensures { λ r. ⌜ Answered (L·Line .waiting) (delivers (L·Line .takes (now (line .entry))) (dataOf (frame .entry)) (bearing (now (self .entry))) (forceOf traffic) (foundOf found)) (bearing (now (self .exit))) (now (line .entry)) (now (line .exit)) (said (now (report .exit))) r ⌝ }
     {
         report.clear();
@@ -91,7 +98,14 @@ impl Bearer {
     }
 
     // User data of a combination of the set in force.
-    fn judge<L: Line>(&mut self, frame: UserFrame<'_>, traffic: Traffic, found: Found, line: &mut L, report: &mut Report) -> Result<(), Refusal>
+    fn judge<L: Line>(
+        &mut self,
+        frame: UserFrame<'_>,
+        traffic: Traffic,
+        found: Found,
+        line: &mut L,
+        report: &mut Report,
+    ) -> Result<(), Refusal>
         ensures { λ r. ⌜ Answered (L·Line .waiting) (judges (L·Line .takes (now (line .entry))) (dataOf (frame .entry)) (bearing (now (self .entry))) (forceOf traffic) (Some (foundOf found))) (bearing (now (self .exit))) (now (line .entry)) (now (line .exit)) (said (now (report .exit))) r ⌝ }
     {
         report.clear();
@@ -109,7 +123,12 @@ impl Bearer {
     }
 
     // User data that was received.
-    pub fn receive_data<L: Line>(&mut self, frame: UserFrame<'_>, line: &mut L, report: &mut Report) -> Result<(), Refusal>
+    pub fn receive_data<L: Line>(
+        &mut self,
+        frame: UserFrame<'_>,
+        line: &mut L,
+        report: &mut Report,
+    ) -> Result<(), Refusal>
         ensures { λ r. ⌜ Answered (L·Line .waiting) (got (L·Line .takes (now (line .entry))) (dataOf (frame .entry)) (bearing (now (self .entry)))) (bearing (now (self .exit))) (now (line .entry)) (now (line .exit)) (said (now (report .exit))) r ⌝ }
     {
         let Some(traffic) = self.traffic else {

@@ -112,7 +112,14 @@ impl Bearer {
     }
 
     // Sends user data of a combination.
-    pub fn send_data<L: Line>(&mut self, rfci: u8, fqc: u8, payload: &[u8], line: &mut L, report: &mut Report) -> Result<(), Refusal>
+    pub fn send_data<L: Line>(
+        &mut self,
+        rfci: u8,
+        fqc: u8,
+        payload: &[u8],
+        line: &mut L,
+        report: &mut Report,
+    ) -> Result<(), Refusal>
         ensures { λ r. ⌜ Answered (L·Line .waiting) (dataSent (L·Line .takes (now (line .entry))) rfci fqc (now (payload .entry)) (bearing (now (self .entry)))) (bearing (now (self .exit))) (now (line .entry)) (now (line .exit)) (said (now (report .exit))) r ⌝ }
     {
         report.clear();
@@ -126,7 +133,13 @@ impl Bearer {
     }
 
     // Hands over the next frame.
-    fn pass<L: Line>(&mut self, traffic: Traffic, frame: Octets, line: &mut L, report: &mut Report) -> Result<(), Refusal>
+    fn pass<L: Line>(
+        &mut self,
+        traffic: Traffic,
+        frame: Octets,
+        line: &mut L,
+        report: &mut Report,
+    ) -> Result<(), Refusal>
         ensures { λ r. ⌜ Answered (L·Line .waiting) (passes (L·Line .takes (now (line .entry))) (bearing (now (self .entry))) (forceOf traffic) (Ok (octetsOf frame))) (bearing (now (self .exit))) (now (line .entry)) (now (line .exit)) (said (now (report .exit))) r ⌝ }
     {
         report.clear();

@@ -20,10 +20,13 @@ pub struct AlignmentQuestion {
 
 pub impl Inquiry for AlignmentQuestion as AlignmentInquiry {
     const PROCEDURE: u8 = 2;
+
     type Answer = AlignmentAnswer;
 
     ghost form = { λ q. alignmentForm (octetOf (q .shift)) };
+
     ghost reads = { alignmentOf };
+
     ghost turns = { alignmentLeads };
 
     fn kind(&self) -> Kind {

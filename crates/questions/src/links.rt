@@ -40,10 +40,13 @@ fn link_frame(number: u8, payload: &[u8]) -> Octets
 
 pub impl Inquiry for Links as LinksInquiry {
     const PROCEDURE: u8 = 0;
+
     type Answer = Acceptance;
 
     ghost form = { λ q. linksForm (contents (q .set .table)) };
+
     ghost reads = { acceptanceOf };
+
     ghost turns = { acceptanceLeads };
 
     fn kind(&self) -> Kind {

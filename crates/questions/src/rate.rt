@@ -20,10 +20,13 @@ pub struct RateQuestion {
 
 pub impl Inquiry for RateQuestion as RateInquiry {
     const PROCEDURE: u8 = 1;
+
     type Answer = Acceptance;
 
     ghost form = { λ q. rateForm (marksOf (q .mask)) };
+
     ghost reads = { acceptanceOf };
+
     ghost turns = { acceptanceLeads };
 
     fn kind(&self) -> Kind {

@@ -52,7 +52,7 @@ fn find(rt: &LibcRuntime, set: &Option<InForce>, sizes: &[u16]) -> io::Result<()
 }
 
 impl Bench {
-    pub fn new() -> Bench {
+    pub(crate) fn new() -> Bench {
         Bench {
             draft: None,
             set: None,
@@ -115,7 +115,7 @@ impl Bench {
         })
     }
 
-    pub fn obey(self, rt: &LibcRuntime, line: &str) -> io::Result<Bench> {
+    pub(crate) fn obey(self, rt: &LibcRuntime, line: &str) -> io::Result<Bench> {
         let Some(numbers) = numbers(rt, line)? else {
             println!(rt, "what?")?;
             return Ok(self);

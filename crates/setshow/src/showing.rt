@@ -9,7 +9,7 @@ use set_in_force::place::Places;
 use sets::closed::Set;
 use std::io;
 
-pub fn show_refusal(rt: &LibcRuntime, refusal: Refusal) -> io::Result<()> {
+pub(crate) fn show_refusal(rt: &LibcRuntime, refusal: Refusal) -> io::Result<()> {
     let number = refusal.number();
     println!(rt, "no {number}")
 }
@@ -57,7 +57,7 @@ fn show_combinations(rt: &LibcRuntime, set: &InForce) -> io::Result<()> {
 }
 
 // The links as frames, then the place and length in bits of each subflow.
-pub fn show_set(rt: &LibcRuntime, set: &Set, in_force: &InForce) -> io::Result<()> {
+pub(crate) fn show_set(rt: &LibcRuntime, set: &Set, in_force: &InForce) -> io::Result<()> {
     for k in 0..link_count(set) {
         if let Ok(number) = Number::new(k) {
             show_link(rt, set, number)?;
