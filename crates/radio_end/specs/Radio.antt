@@ -6,7 +6,8 @@ use Rattle.std.specs.declared.option.Option.{Option}
 use Rattle.std.specs.declared.option.Option.the-variants.{None}
 use Rattle.frames.specs.Values.{marksOf, octetOf}
 use Rattle.sets.specs.Closing.{Contents, contents}
-use Rattle.exchange.specs.Asking.{Asked, meant}
+use Rattle.exchange.specs.declared.exchange.Exchange.{Exchange}
+use Rattle.exchange.specs.Asking.{Asked, meant, watch}
 use Rattle.questions.specs.declared.links.Links.{Links}
 use Rattle.questions.specs.declared.rate.RateQuestion.{RateQuestion}
 use Rattle.questions.specs.declared.alignment.AlignmentQuestion.{AlignmentQuestion}
@@ -27,6 +28,9 @@ pub record Radio : Type 0 where
 
 abbrev pub offers : Links → Contents
 offers q = contents (q .set .table)
+
+abbrev pub offering : Exchange Links → Asked Contents
+offering e = record { question = offers (e .question); watch = watch e }
 
 abbrev pub marks : RateQuestion → List Bool
 marks q = marksOf (q .mask)

@@ -31,7 +31,7 @@ returns g c =
     record {
       next =
           ap₂ (λ x y. withBearing (withForce x (r .bearing)) (withLinks r y))
-          (c .in-force-after .ensures ∙ ap (λ d. cond d (Some (inForce q)) (r .bearing .force)) done)
+          (c .in-force-after-self .ensures ∙ ap (λ d. cond d (Some (inForce q)) (r .bearing .force)) done)
           (ap (meant offers) (c .hear-heard .ensures .came .next) ∙ meant-resumed offers (c .args .running .question) (h .outcome .next));
       line = c .hear-heard .ensures .came .line;
       says = c .hear-heard .ensures .came .said low ∙ ap (λ u. u ++ h .outcome .says) (c .clear .ensures .said);
