@@ -63,9 +63,12 @@ abbrev pub watch : {Q : Type 0} → Exchange Q → Watch
 watch e = record { ticks = e .ticks; repeats = e .repeats; number = e .number }
 
 -- the exchange of a question
+abbrev pub exchangeOf : {Q : Type 0} → Q → Watch → Exchange Q
+exchangeOf q w = record { question = q; ticks = w .ticks; repeats = w .repeats; number = w .number }
+
 abbrev pub resumed : {Q : Type 0} → Q → Option Watch → Option (Exchange Q)
 resumed q None = None
-resumed q (Some w) = Some (record { question = q; ticks = w .ticks; repeats = w .repeats; number = w .number })
+resumed q (Some w) = Some (exchangeOf q w)
 
 -- an exchange with the meaning of its question
 pub record Asked (M : Type 0) : Type 0 where

@@ -1,0 +1,3 @@
+pub mod Cutting
+pub mod Flows
+pub mod Quietness

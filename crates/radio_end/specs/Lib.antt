@@ -1,0 +1,3 @@
+pub mod Radio
+pub mod Steps
+pub mod Runs
