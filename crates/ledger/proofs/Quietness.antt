@@ -79,8 +79,8 @@ pub reported-quiet : (takes : ℕ → Bool) (cause : ℕ) (b : Bearing) → Quie
 reported-quiet takes cause b =
     by-cond (Quiet b) (ltb 63 cause) (λ _. refused-quiet b _)
     (λ _. by-cond (Quiet b) (takes (length (errorFrame (b .events) 1 cause)))
-      (λ _. record { settings = refl; set = refl; silent = λ k. error-silent k true (b .events) 1 cause; unfinished = λ k. refl; borne = tt })
-      (λ _. refused-quiet b _))
+    (λ _. record { settings = refl; set = refl; silent = λ k. error-silent k true (b .events) 1 cause; unfinished = λ k. refl; borne = tt })
+    (λ _. refused-quiet b _))
 
 -- user data is no question of any kind
 abbrev NoQuestion : Result (List ℕ) Refusal → Type 0
@@ -99,9 +99,9 @@ user-plain : (type : DataType) (number fqc rfci bits : ℕ) (payload : List ℕ)
 user-plain type number fqc rfci bits payload =
     by-cond NoQuestion (eqb (length payload) _)
     (λ _. by-cond NoQuestion (leb number 15 && leb fqc 3 && leb rfci 63)
-      (λ e. by-cond NoQuestion (ltb 512 (length (userFrame type number fqc rfci (padded bits payload)))) (λ _. tt)
-        (λ _. λ k. user-question type number fqc rfci (padded bits payload) k (leb-true number 15 (first (leb number 15) _ e))))
-      (λ _. tt))
+    (λ e. by-cond NoQuestion (ltb 512 (length (userFrame type number fqc rfci (padded bits payload)))) (λ _. tt)
+    (λ _. λ k. user-question type number fqc rfci (padded bits payload) k (leb-true number 15 (first (leb number 15) _ e))))
+    (λ _. tt))
     (λ _. tt)
 
 framed-plain : (rfci fqc : ℕ) (payload : List ℕ) (x : Force) (o : Option Found) → NoQuestion (framedAs rfci fqc payload x o)

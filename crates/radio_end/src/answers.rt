@@ -11,9 +11,9 @@ ghost use Rattle.bearer.specs.Errors.{objects};
 ghost use Rattle.radio_end.specs.Radio.{radio, offers, marks, shift};
 ghost use Rattle.radio_end.specs.Steps.{onBearing, ackReply, nackReply, tells, completed, heardLinks, heardRate, heardAlignment, answered};
 ghost use Rattle.radio_end.specs.Runs.{Answers};
-use bearer::bearer::Traffic;
 use crate::received::Received;
 use crate::state::RadioEnd;
+use bearer::bearer::Traffic;
 use exchange::exchange::Exchange;
 use exchange::exchange::Reply;
 use frames::procedure::Procedure;
@@ -81,14 +81,24 @@ fn in_force_after(reply: Reply, runs: bool, set: Set, before: Option<Traffic>) -
 
 impl<L: Line> RadioEnd<L> {
     // A received frame is refused. Where the refusal is one that goes back, an error event tells it.
-    pub(crate) fn object(&mut self, refusal: Refusal, report: &mut Report) -> Result<Received, Refusal>
+    pub(crate) fn object(
+        &mut self,
+        refusal: Refusal,
+        report: &mut Report,
+    ) -> Result<Received, Refusal>
         ensures { λ r. ⌜ Answers (L·Line .waiting) (L·Line .takes) (onBearing (radio (now (self .entry) .state)) (objects (L·Line .takes (now (self .entry) .line)) refusal (radio (now (self .entry) .state) .bearing))) (now (self .entry)) (now (self .exit)) r (said (now (report .exit))) ⌝ }
     {
         let _ = self.state.bearer.object(refusal, &mut self.line, report);
         Err(refusal)
     }
 
-    fn hear_links(&mut self, running: Exchange<Links>, reply: Reply, number: u8, report: &mut Report) -> Result<Received, Refusal>
+    fn hear_links(
+        &mut self,
+        running: Exchange<Links>,
+        reply: Reply,
+        number: u8,
+        report: &mut Report,
+    ) -> Result<Received, Refusal>
         ensures { λ r. ⌜ Answers (L·Line .waiting) (L·Line .takes) (heardLinks (L·Line .takes (now (self .entry) .line)) reply number (radio (now (self .entry) .state)) (meant offers (Some running))) (now (self .entry)) (now (self .exit)) r (said (now (report .exit))) ⌝ }
     {
         report.clear();
@@ -96,11 +106,22 @@ impl<L: Line> RadioEnd<L> {
         let heard = running.hear(reply, number, limits, &mut self.line, report);
         self.state.links = heard.next;
         let before = self.state.bearer.traffic;
-        self.state.bearer.traffic = in_force_after(reply, heard.next.is_some(), running.question.set, before);
+        self.state.bearer.traffic = in_force_after(
+            reply,
+            heard.next.is_some(),
+            running.question.set,
+            before,
+        );
         told(heard.answer, reply)
     }
 
-    fn hear_rate(&mut self, running: Exchange<RateQuestion>, reply: Reply, number: u8, report: &mut Report) -> Result<Received, Refusal>
+    fn hear_rate(
+        &mut self,
+        running: Exchange<RateQuestion>,
+        reply: Reply,
+        number: u8,
+        report: &mut Report,
+    ) -> Result<Received, Refusal>
         ensures { λ r. ⌜ Answers (L·Line .waiting) (L·Line .takes) (heardRate (L·Line .takes (now (self .entry) .line)) reply number (radio (now (self .entry) .state)) (meant marks (Some running))) (now (self .entry)) (now (self .exit)) r (said (now (report .exit))) ⌝ }
     {
         report.clear();
@@ -110,7 +131,13 @@ impl<L: Line> RadioEnd<L> {
         told(heard.answer, reply)
     }
 
-    fn hear_alignment(&mut self, running: Exchange<AlignmentQuestion>, reply: Reply, number: u8, report: &mut Report) -> Result<Received, Refusal>
+    fn hear_alignment(
+        &mut self,
+        running: Exchange<AlignmentQuestion>,
+        reply: Reply,
+        number: u8,
+        report: &mut Report,
+    ) -> Result<Received, Refusal>
         ensures { λ r. ⌜ Answers (L·Line .waiting) (L·Line .takes) (heardAlignment (L·Line .takes (now (self .entry) .line)) reply number (radio (now (self .entry) .state)) (meant shift (Some running))) (now (self .entry)) (now (self .exit)) r (said (now (report .exit))) ⌝ }
     {
         report.clear();
@@ -121,7 +148,13 @@ impl<L: Line> RadioEnd<L> {
     }
 
     // An answer goes to the exchange of its procedure.
-    pub(crate) fn answer(&mut self, procedure: Procedure, reply: Reply, number: u8, report: &mut Report) -> Result<Received, Refusal>
+    pub(crate) fn answer(
+        &mut self,
+        procedure: Procedure,
+        reply: Reply,
+        number: u8,
+        report: &mut Report,
+    ) -> Result<Received, Refusal>
         ensures { λ r. ⌜ Answers (L·Line .waiting) (L·Line .takes) (answered (L·Line .takes (now (self .entry) .line)) procedure reply number (radio (now (self .entry) .state))) (now (self .entry)) (now (self .exit)) r (said (now (report .exit))) ⌝ }
     {
         match procedure {

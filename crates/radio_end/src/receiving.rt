@@ -9,11 +9,11 @@ ghost use Rattle.radio_end.specs.declared.received.Received.the-variants.{Deli
 ghost use Rattle.radio_end.specs.Radio.{radio};
 ghost use Rattle.radio_end.specs.Steps.{onBearing, toldAs, eventTold, questioned, receivedOn};
 ghost use Rattle.radio_end.specs.Runs.{Answers, Step, receive};
-use bearer::bearer::UserFrame;
 use crate::answers::ack_reply;
 use crate::answers::nack_reply;
 use crate::received::Received;
 use crate::state::RadioEnd;
+use bearer::bearer::UserFrame;
 use frames::frame::Frame;
 use frames::procedure::Procedure;
 use frames::reading::read;
@@ -38,19 +38,48 @@ impl<L: Line> RadioEnd<L> {
         ensures { λ r. ⌜ Answers (L·Line .waiting) (L·Line .takes) (receivedOn (L·Line .takes (now (self .entry) .line)) (Ok (content (frame .entry))) (radio (now (self .entry) .state))) (now (self .entry)) (now (self .exit)) r (said (now (report .exit))) ⌝ }
     {
         match frame {
-            Frame::UserData { data_type, number, fqc, rfci, checksum, place, payload } => {
-                let user = UserFrame { data_type, number, fqc, rfci, checksum, place, payload };
+            Frame::UserData {
+                data_type,
+                number,
+                fqc,
+                rfci,
+                checksum,
+                place,
+                payload,
+            } => {
+                let user = UserFrame {
+                    data_type,
+                    number,
+                    fqc,
+                    rfci,
+                    checksum,
+                    place,
+                    payload,
+                };
                 self.deliver(user, report)
             }
-            Frame::Question { number: _, version, procedure, checksum, place: _, payload } => {
-                self.question(procedure, version, checksum, payload, report)
-            }
-            Frame::Ack { number, version, procedure, place: _, payload } => {
-                self.answer(procedure, ack_reply(version, payload), number, report)
-            }
-            Frame::Nack { number, version, procedure, place: _, payload } => {
-                self.answer(procedure, nack_reply(version, payload), number, report)
-            }
+            Frame::Question {
+                number: _,
+                version,
+                procedure,
+                checksum,
+                place: _,
+                payload,
+            } => { self.question(procedure, version, checksum, payload, report) }
+            Frame::Ack {
+                number,
+                version,
+                procedure,
+                place: _,
+                payload,
+            } => { self.answer(procedure, ack_reply(version, payload), number, report) }
+            Frame::Nack {
+                number,
+                version,
+                procedure,
+                place: _,
+                payload,
+            } => { self.answer(procedure, nack_reply(version, payload), number, report) }
         }
     }
 
@@ -64,14 +93,24 @@ impl<L: Line> RadioEnd<L> {
     }
 
     // No question is expected but an error event.
-    fn question(&mut self, procedure: Procedure, version: u8, checksum: u16, payload: &[u8], report: &mut Report) -> Result<Received, Refusal>
+    fn question(
+        &mut self,
+        procedure: Procedure,
+        version: u8,
+        checksum: u16,
+        payload: &[u8],
+        report: &mut Report,
+    ) -> Result<Received, Refusal>
         ensures { λ r. ⌜ Answers (L·Line .waiting) (L·Line .takes) (questioned (L·Line .takes (now (self .entry) .line)) procedure (eventIn version checksum (now (payload .entry))) (radio (now (self .entry) .state))) (now (self .entry)) (now (self .exit)) r (said (now (report .exit))) ⌝ }
     {
         match procedure {
             Procedure::ErrorEvent => {
                 report.clear();
                 match read_error_event(version, checksum, payload) {
-                    Ok(event) => Ok(Received::ErrorEvent(event.cause.value, event.distance.code() + 1)),
+                    Ok(event) => Ok(Received::ErrorEvent(
+                        event.cause.value,
+                        event.distance.code() + 1,
+                    )),
                     Err(refusal) => Err(refusal),
                 }
             }

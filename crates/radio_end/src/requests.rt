@@ -15,8 +15,8 @@ ghost use Rattle.questions.specs.Forms.{linksForm, rateForm, alignmentForm};
 ghost use Rattle.radio_end.specs.Radio.{radio, offers, marks, shift};
 ghost use Rattle.radio_end.specs.Steps.{overtaken, startBegun, rateBegun, alignmentBegun};
 ghost use Rattle.radio_end.specs.Runs.{Step, Answers, start, rate, align};
-use bearer::marks::allow_one;
 use crate::state::RadioEnd;
+use bearer::marks::allow_one;
 use exchange::exchange::Exchange;
 use frames::mask::RateMask;
 use frames::number::Number;
@@ -104,7 +104,8 @@ impl<L: Line> RadioEnd<L> {
         let question = RateQuestion {
             mask: mask_for(&traffic.set, bars),
         };
-        if !self.line.takes_length(question.frame(self.state.rates.value).as_slice().len()) {
+        if !self.line
+            .takes_length(question.frame(self.state.rates.value).as_slice().len()) {
             return Err(Refusal::LineDeclines);
         }
         self.ask_rate(question, report);
@@ -126,7 +127,12 @@ impl<L: Line> RadioEnd<L> {
     }
 
     // Asks the other end to send later or earlier by some steps.
-    pub fn align(&mut self, direction: Direction, steps: u8, report: &mut Report) -> Result<(), Refusal>
+    pub fn align(
+        &mut self,
+        direction: Direction,
+        steps: u8,
+        report: &mut Report,
+    ) -> Result<(), Refusal>
         ensures { λ r. ⌜ Step (L·Line .waiting) (L·Line .takes) (now (self .entry)) (align direction steps r (said (now (report .exit)))) (now (self .exit)) ⌝ }
     {
         report.clear();

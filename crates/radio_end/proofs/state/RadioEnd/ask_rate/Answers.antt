@@ -20,7 +20,7 @@ returns g c =
     let takes = g .L·Line .takes (c .args .self .now .line) in
     let is : c .first-first .result ≡ exchangeOf (c .args .question) (begun (c .args .self .now .state .bearer .settings .rate .ticks) (c .args .self .now .state .rates .value)) = c .first-first .ensures .begun in
     let says : sent (rateForm (marks (c .first-first .result .question))) takes (watch (c .first-first .result)) .says ≡ handed f ∷ [] =
-        ap (λ e. sent (rateForm (marks (e .question))) takes (watch e) .says) is ∙ ap (λ b. sending b f ∷ []) (c .pre) in
+    ap (λ e. sent (rateForm (marks (e .question))) takes (watch e) .says) is ∙ ap (λ b. sending b f ∷ []) (c .pre) in
     let low : entered (c .clear .last .self) < 4 = omega arith in
     let one = c .note .ensures .count low in
     let room : entered (c .note .last .self) < 4 = omega arith in

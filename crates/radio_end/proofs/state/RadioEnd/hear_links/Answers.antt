@@ -27,7 +27,7 @@ returns g c =
     let low : entered (c .clear .last .self) < 4 = omega arith in
     let runs : c .is-some .result ≡ goes (h .outcome .next) = c .is-some .ensures ∙ ap isSome (c .hear-heard .ensures .came .next) ∙ goes-resumed (c .args .running .question) (h .outcome .next) in
     let done : completed (c .args .reply) (c .is-some .result) ≡ doneIn Initialisation (h .outcome .says) =
-        ap (completed (c .args .reply)) runs ∙ sym (done-as q (g .L·Line .takes (c .args .self .now .line)) (s .ticks) (s .repeats) (c .args .reply) (c .args .number) (watch (c .args .running))) in
+    ap (completed (c .args .reply)) runs ∙ sym (done-as q (g .L·Line .takes (c .args .self .now .line)) (s .ticks) (s .repeats) (c .args .reply) (c .args .number) (watch (c .args .running))) in
     record {
       next =
           ap₂ (λ x y. withBearing (withForce x (r .bearing)) (withLinks r y))

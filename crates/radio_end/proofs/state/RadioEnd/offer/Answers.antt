@@ -22,7 +22,7 @@ returns g c =
     let takes = g .L·Line .takes (c .args .self .now .line) in
     let is : c .first-first .result ≡ exchangeOf (c .args .links) (begun (c .args .self .now .state .bearer .settings .initialisation .ticks) 0) = search needs in
     let says : sent (linksForm (offers (c .first-first .result .question))) takes (watch (c .first-first .result)) .says ≡ handed f ∷ [] =
-        ap (λ e. sent (linksForm (offers (e .question))) takes (watch e) .says) is ∙ ap (λ b. sending b f ∷ []) (c .pre) in
+    ap (λ e. sent (linksForm (offers (e .question))) takes (watch e) .says) is ∙ ap (λ b. sending b f ∷ []) (c .pre) in
     let low : entered (c .overtake .last .report) < 4 = omega arith in
     let one = c .note .ensures .count low in
     let room : entered (c .note .last .self) < 4 = omega arith in

@@ -47,5 +47,5 @@ returns-in-None g c =
       says =
           c .tick-alignment .ensures .said
           ∙ ap (λ u. u ++ tickedAlignment (g .L·Line .takes (m .line)) (radio (m .state)) (radio (m .state) .alignment) .says)
-            (c .tick-rate .ensures .said ∙ ap (λ u. u ++ tickedRate takes (withBearing (bearing (c .tick .last .self)) (radio (e .state))) x .says) (c .pre .none) ∙ ap (λ r. tickedRate takes r x .says) on);
+          (c .tick-rate .ensures .said ∙ ap (λ u. u ++ tickedRate takes (withBearing (bearing (c .tick .last .self)) (radio (e .state))) x .says) (c .pre .none) ∙ ap (λ r. tickedRate takes r x .says) on);
     })
