@@ -2,3 +2,4 @@ pub mod Bearing
 pub mod Errors
 pub mod Traffics
 pub mod Allowing
+pub mod Ledgers
