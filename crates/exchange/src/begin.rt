@@ -14,6 +14,13 @@ impl<Q: Inquiry> Exchange<Q> {
         ensures begun { λ r. ⌜ r ≡ exchangeOf question (begun (limits .ticks) (number .value)) ⌝ }
         ensures courses { λ r. ⌜ CoursesHold (Q·Inquiry .form question) (limits .ticks) (limits .repeats) (watch r) ⌝ }
     {
+        Exchange::begin(question, number, limits)
+    }
+
+    fn begin(question: Q, number: Number, limits: Limits) -> Exchange<Q>
+        ensures begun { λ r. ⌜ r ≡ exchangeOf question (begun (limits .ticks) (number .value)) ⌝ }
+        ensures courses { λ r. ⌜ CoursesHold (Q·Inquiry .form question) (limits .ticks) (limits .repeats) (watch r) ⌝ }
+    {
         Exchange {
             question,
             ticks: limits.ticks,

@@ -1,7 +1,7 @@
 -- The law of an exchange's course holds of one that begins.
 use mathlib.Core.Path.{refl}
 use Rattle.exchange.proofs.Courses.{courses-hold}
-use Rattle.exchange.proofs.exchange.Exchange.first.Needs as need
+use Rattle.exchange.proofs.exchange.Exchange.begin.Needs as need
 
 pub returns : need.returns
 returns g c =
