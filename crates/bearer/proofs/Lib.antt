@@ -1,1 +1,5 @@
 pub mod Allowed
+pub mod Sayings
+pub mod Unasked
+pub mod Cutting
+pub mod Carrying

@@ -21,7 +21,7 @@ use Rattle.radio_end.specs.Radio.{Radio, radio}
 use Rattle.radio_end.specs.Steps.{timed, tickedRate, tickedAlignment}
 use Rattle.radio_end.specs.Runs.{Call, start, rate, align, send, report, seek, receive, tick, take, Answers, Ticks, Step}
 use Rattle.radio_end.specs.Ledger.{sayings, takesOut}
-use Rattle.radio_end.proofs.Sayings.{handedIn-++}
+use Rattle.bearer.proofs.Sayings.{handedIn-++}
 
 module _ {L : Type 0} (waiting : L → List (List ℕ)) (takes : L → ℕ → Bool) where
   passed : (l l′ : L) (fs : List (List ℕ)) → Passed waiting l l′ fs → waiting l′ ≡ waiting l ++ fs

@@ -20,7 +20,7 @@ use Rattle.bearer.specs.Ledgers.{Borne}
 use Rattle.radio_end.specs.Radio.{Radio, withBearing}
 use Rattle.radio_end.specs.Steps.{onBearing}
 use Rattle.radio_end.specs.Ledger.{Sets, settled}
-use Rattle.radio_end.proofs.Burdens.{setOf, Carries}
+use Rattle.bearer.proofs.Carrying.{setOf, Carries}
 
 -- while an initialisation runs, no set is in force, and nothing else runs
 abbrev pub Alone : Option (Asked Contents) → Option Contents → Option (Asked (List Bool)) → Option (Asked ℕ) → Type 0

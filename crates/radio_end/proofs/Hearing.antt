@@ -36,7 +36,7 @@ use Rattle.radio_end.specs.Radio.{Radio}
 use Rattle.radio_end.specs.Steps.{ackReply, nackReply, onBearing, coming, heardRate, heardAlignment, answered, eventTold, questioned, receivedOn, received}
 use Rattle.radio_end.specs.Runs.{receive}
 use Rattle.radio_end.specs.Ledger.{Sets}
-use Rattle.radio_end.proofs.Burdens.{setOf, none-borne, objecting, getting}
+use Rattle.bearer.proofs.Carrying.{setOf, none-borne, objecting, getting}
 use Rattle.radio_end.proofs.Going.{Alone, Sound, Offer, Stored, Goes, unsettled, unmoved, carried}
 use Rattle.radio_end.proofs.Requesting.{Fits, make}
 

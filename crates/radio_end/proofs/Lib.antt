@@ -1,10 +1,9 @@
 pub mod Starting
 pub mod Objecting
-pub mod Sayings
 pub mod Flowing
-pub mod Burdens
 pub mod Going
 pub mod Requesting
 pub mod Hearing
 pub mod Passing
 pub mod Running
+pub mod Examples

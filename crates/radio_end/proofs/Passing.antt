@@ -23,8 +23,8 @@ use Rattle.bearer.specs.Traffics.{timePassed}
 use Rattle.radio_end.specs.Radio.{Radio}
 use Rattle.radio_end.specs.Steps.{timed, tickedLinks, tickedRate, tickedAlignment}
 use Rattle.radio_end.specs.Ledger.{settled}
-use Rattle.radio_end.proofs.Sayings.{doneIn-++, deliveredIn-++}
-use Rattle.radio_end.proofs.Burdens.{setOf, none-borne}
+use Rattle.bearer.proofs.Sayings.{doneIn-++, deliveredIn-++}
+use Rattle.bearer.proofs.Carrying.{setOf, none-borne}
 use Rattle.radio_end.proofs.Going.{Alone, Sound, Goes, unsettled}
 use Rattle.radio_end.proofs.Requesting.{make}
 use Rattle.radio_end.proofs.Hearing.{offer-on}

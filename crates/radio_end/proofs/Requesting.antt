@@ -30,8 +30,8 @@ use Rattle.radio_end.specs.Radio.{Radio}
 use Rattle.radio_end.specs.Steps.{overtaken, startBegun, started, marksFor, rateBegun, rated, alignmentBegun, alignedBy, aligned}
 use Rattle.radio_end.specs.Runs.{Call, start, rate, align}
 use Rattle.radio_end.specs.Ledger.{marks, after}
-use Rattle.radio_end.proofs.Burdens.{setOf}
-use Rattle.radio_end.proofs.Burdens.{none-borne}
+use Rattle.bearer.proofs.Carrying.{setOf}
+use Rattle.bearer.proofs.Carrying.{none-borne}
 use Rattle.radio_end.proofs.Going.{Alone, Sound, Goes, unsettled, unmoved}
 
 -- what a call with this effect does

@@ -27,7 +27,7 @@ use Rattle.radio_end.specs.Steps.{timed, tickedLinks, tickedRate, tickedAlignm
 use Rattle.radio_end.specs.Runs.{Call, start, rate, align, send, report, seek, receive, tick, take, Answers, Ticks, Step, Run, none, then}
 use Rattle.radio_end.specs.Ledger.{sayings, marks, books, settled, after, sets, Fair, takesOut, taken, handedOver}
 use Rattle.radio_end.specs.Law.{Lawful, RunsHold}
-use Rattle.radio_end.proofs.Burdens.{setOf, reporting, sending-data}
+use Rattle.bearer.proofs.Carrying.{setOf, reporting, sending-data}
 use Rattle.radio_end.proofs.Going.{Sound, Stored, Goes, unmoved, as-it-was, carried}
 use Rattle.radio_end.proofs.Requesting.{started-fits, rated-fits, aligned-fits}
 use Rattle.radio_end.proofs.Hearing.{received-fits}

@@ -1,43 +1,34 @@
 -- What a bearer does is of no procedure, keeps the set in force, and delivers only what fits it.
-use Prim.Native.Nat.{ℕ, zero, suc, _+_, _*_, _/_, _%_, _≤_}
+use Prim.Native.Nat.{ℕ, _+_}
 use mathlib.Core.Path.{_≡_, refl, sym, ap, _∙_, subst}
-use mathlib.Core.Bool.{Bool, true, false, cond, _&&_, not}
-use mathlib.Core.List.{List, [], _∷_, _++_, append-nil}
-use native.Mathlib.Omega.{arith}
-use borrow.Author.Tests.{ne-eqb, leb-true, eqb-true}
-use lib.Dec.{eqb, ltb, leb}
+use mathlib.Core.Bool.{Bool, false, _&&_, not}
+use mathlib.Core.List.{List, [], _∷_, append-nil}
+use lib.Dec.{eqb, ltb}
 use lib.ListN.{length}
 use Rattle.std.specs.declared.option.Option.{Option}
 use Rattle.std.specs.declared.option.Option.the-variants.{Some, None}
 use Rattle.std.specs.declared.result.Result.{Result}
 use Rattle.std.specs.declared.result.Result.the-variants.{Ok, Err}
 use Rattle.frames.specs.declared.refusal.Refusal.{Refusal}
-use Rattle.frames.specs.declared.refusal.Refusal.the-variants.{WrongPhase, RfciBarred, LineDeclines, UnexpectedPduType, UnknownRfci, TooShort, UnexpectedValue, PayloadChecksum, ValueRange, OctetCount, TooLong}
-use Rattle.frames.specs.declared.«data_type».DataType.{DataType}
-use Rattle.frames.specs.declared.«data_type».DataType.the-variants.{Checked, Plain}
+use Rattle.frames.specs.declared.refusal.Refusal.the-variants.{WrongPhase, LineDeclines, UnexpectedPduType, UnknownRfci, TooShort, UnexpectedValue, PayloadChecksum, ValueRange}
 use Rattle.frames.specs.Extent.{octetsFor}
-use Rattle.frames.specs.Frame.{longest}
 use Rattle.frames.specs.DataTypes.{dataNumber}
-use Rattle.frames.specs.Joined.{fitting}
 use Rattle.building.specs.Building.{errorFrame}
-use Rattle.building.specs.UserData.{userFrame, userData, padded}
-use Rattle.sets.specs.Rows.{Row}
 use Rattle.sets.specs.Closing.{Contents}
-use Rattle.set_in_force.specs.declared.place.Place.{Place}
-use Rattle.set_in_force.specs.Places.{placesFrom, item}
-use Rattle.set_in_force.specs.Looks.{Found, told, toldAt, indexFrom, lookedUp}
+use Rattle.set_in_force.specs.Looks.{Found, lookedUp}
 use Rattle.reports.specs.declared.ending.Kind.{Kind}
-use Rattle.reports.specs.declared.ending.Kind.the-variants.{Initialisation, RateControl, TimeAlignment, HostQuestion}
-use Rattle.reports.specs.Said.{Brought, Happening, delivered, handed, deliveredIn}
+use Rattle.reports.specs.Said.{Brought, deliveredIn}
 use Rattle.reports.specs.Effects.{Effect, refuses}
-use Rattle.exchange.specs.Books.{Mark, asked, procedureOf, question, named, doneIn}
+use Rattle.exchange.specs.Books.{question, named, doneIn}
 use Rattle.exchange.proofs.Exchanging.{by-cond, saying, undone, undelivered}
 use Rattle.bearer.specs.declared.settings.Numbering.{Numbering}
 use Rattle.bearer.specs.declared.settings.Numbering.the-variants.{Timed, Counted}
-use Rattle.bearer.specs.Bearing.{Bearing, Force, withForce}
-use Rattle.bearer.specs.Errors.{eventUsed, event, causeOf, objectsBy, objects, reported}
-use Rattle.bearer.specs.Traffics.{Data, typeOf, framedAs, frameFor, passes, dataOn, dataSent, damaged, gapOf, expectedNext, brings, counting, delivers, judges, gotOn, got}
-use Rattle.bearer.specs.Ledgers.{Cut, Borne}
+use Rattle.bearer.specs.Bearing.{Bearing, Force}
+use Rattle.bearer.specs.Errors.{event, causeOf, objectsBy, objects, reported}
+use Rattle.bearer.specs.Traffics.{Data, frameFor, passes, dataOn, dataSent, damaged, gapOf, expectedNext, brings, counting, delivers, judges, gotOn, got}
+use Rattle.bearer.specs.Ledgers.{Borne}
+use Rattle.bearer.proofs.Unasked.{no-question, Bland, bland-as}
+use Rattle.bearer.proofs.Cutting.{cut-at}
 
 abbrev pub setOf : Option Force → Option Contents
 setOf None = None
@@ -55,20 +46,6 @@ none-borne o ds e = subst (Borne o) (sym e) tt
 
 refusing : {A : Type 0} (b : Bearing) (e : Refusal) → Carries {A = A} b (refuses b e)
 refusing b e = record { settings = refl; set = refl; names = λ k. refl; done = λ k. refl; borne = tt }
-
--- an error event is no question of a procedure
-and-false : (x : Bool) → (x && false) ≡ false
-and-false true = refl
-and-false false = refl
-
-strange : (n : ℕ) → cond {A = List Mark} (eqb ((224 + n) / 4) 56 && false) (asked ((224 + n) % 4) ∷ []) [] ≡ []
-strange n = ap (λ x. cond {A = List Mark} x (asked ((224 + n) % 4) ∷ []) []) (and-false (eqb ((224 + n) / 4) 56))
-
-no-question : (k : Kind) (n d c : ℕ) → question k (errorFrame n d c) ≡ []
-no-question Initialisation n d c = strange n
-no-question RateControl n d c = strange n
-no-question TimeAlignment n d c = strange n
-no-question HostQuestion n d c = strange n
 
 silent : (takes : ℕ → Bool) (cause : ℕ) (b : Bearing) (k : Kind) → named k (event takes cause b ∷ []) ≡ []
 silent takes cause b k = saying k (takes (length (errorFrame (b .events) 0 cause))) (errorFrame (b .events) 0 cause) ∙ no-question k (b .events) 0 cause
@@ -94,35 +71,6 @@ reporting takes cause b =
     (λ _. record { settings = refl; set = refl; names = λ k. append-nil (question k (errorFrame (b .events) 1 cause)) ∙ no-question k (b .events) 1 cause; done = λ k. refl; borne = tt })
     (λ _. refusing b LineDeclines))
 
--- neither is user data
-abbrev Bland : Result (List ℕ) Refusal → Type 0
-Bland (Err e) = Unit {0}
-Bland (Ok f) = (k : Kind) → question k f ≡ []
-
-bland-frame : (type : DataType) (number fqc rfci : ℕ) (payload : List ℕ) → number ≤ 15 → (k : Kind) → question k (userFrame type number fqc rfci payload) ≡ []
-bland-frame Checked number fqc rfci payload low k =
-    let head : eqb (number / 4) 56 ≡ false = ne-eqb (number / 4) 56 (omega arith) in
-    ap (λ x. cond {A = List Mark} (x && eqb ((fqc * 64 + rfci) % 16) (procedureOf k)) (asked (number % 4) ∷ []) []) head
-bland-frame Plain number fqc rfci payload low k =
-    let head : eqb ((16 + number) / 4) 56 ≡ false = ne-eqb ((16 + number) / 4) 56 (omega arith) in
-    ap (λ x. cond {A = List Mark} (x && eqb ((fqc * 64 + rfci) % 16) (procedureOf k)) (asked ((16 + number) % 4) ∷ []) []) head
-
-left : (p q : Bool) → p && q ≡ true → p ≡ true
-left true q e = refl
-left false q e = e
-
-bland-data : (type : DataType) (number fqc rfci bits : ℕ) (payload : List ℕ) → Bland (userData type number fqc rfci bits payload)
-bland-data type number fqc rfci bits payload =
-    by-cond Bland (eqb (length payload) (octetsFor bits))
-    (λ _. by-cond Bland (leb number 15 && leb fqc 3 && leb rfci 63)
-    (λ e. by-cond Bland (ltb longest (length (userFrame type number fqc rfci (padded bits payload)))) (λ _. tt) (λ _. bland-frame type number fqc rfci (padded bits payload) (leb-true number 15 (left (leb number 15) (leb fqc 3) (left (leb number 15 && leb fqc 3) (leb rfci 63) e)))))
-    (λ _. tt))
-    (λ _. tt)
-
-bland-as : (rfci fqc : ℕ) (payload : List ℕ) (x : Force) (o : Option Found) → Bland (framedAs rfci fqc payload x o)
-bland-as rfci fqc payload x None = tt
-bland-as rfci fqc payload x (Some c) = by-cond Bland (c .allowed) (λ _. bland-data (typeOf (x .set)) (x .sending) fqc rfci (c .bits) payload) (λ _. tt)
-
 passing : (takes : ℕ → Bool) (b : Bearing) (x : Force) (f : Result (List ℕ) Refusal) → b .force ≡ Some x → Bland f → Carries b (passes takes b x f)
 passing takes b x (Err e) is h = refusing b e
 passing takes b x (Ok f) is h =
@@ -136,36 +84,6 @@ sending-on takes rfci fqc payload b (Some x) is = passing takes b x (frameFor rf
 
 pub sending-data : (takes : ℕ → Bool) (rfci fqc : ℕ) (payload : List ℕ) (b : Bearing) → Carries b (dataSent takes rfci fqc payload b)
 sending-data takes rfci fqc payload b = sending-on takes rfci fqc payload b (b .force) refl
-
--- what is looked up is a row with that RFCI
-pub record Located (rs : List Row) (n k i : ℕ) : Type 0 where
-  pub index : ℕ
-  pub place : i ≡ k + index
-  pub row : Row
-  pub there : item rs index ≡ Some row
-  pub rfci : n ≡ row .rfci
-
-located : (rs : List Row) (k n i : ℕ) → indexFrom k n rs ≡ Some i → Located rs n k i
-unfolding indexFrom item
-located [] k n i e = let z : _≡_ {A = ℕ} 0 1 = cc in absurd (omega arith)
-located (r ∷ rs) k n i e = go (λ e. located rs (k + 1) n i e) (eqb (r .rfci) n) refl e
-  where
-    go : (indexFrom (k + 1) n rs ≡ Some i → Located rs n (k + 1) i) → (b : Bool) → eqb (r .rfci) n ≡ b → cond b (Some k) (indexFrom (k + 1) n rs) ≡ Some i → Located (r ∷ rs) n k i
-    go on true is e = let k-is : k ≡ i = cc in record { index = 0; place = omega arith; row = r; there = refl; rfci = sym (eqb-true (r .rfci) n is) }
-    go on false is e = let l = on e in record { index = suc (l .index); place = omega (arith, l .place); row = l .row; there = l .there; rfci = l .rfci }
-
-placesOf : Option Found → List Place
-placesOf None = []
-placesOf (Some c) = c .places
-
-cut-at : (rs : List Row) (d : Brought) (c : Found) (o : Option ℕ) → indexFrom 0 (d .rfci) rs ≡ o → toldAt rs o ≡ Some c → d .subflows ≡ c .places → Cut rs d
-unfolding placesOf
-cut-at rs d c None is e same = let z : _≡_ {A = ℕ} 0 1 = cc in absurd (omega arith)
-cut-at rs d c (Some i) is e same =
-    let l = located rs 0 (d .rfci) i is in
-    let i-is : i ≡ l .index = omega (arith, l .place) in
-    let here : item rs i ≡ Some (l .row) = ap (item rs) i-is ∙ l .there in
-    record { index = l .index; row = l .row; there = l .there; rfci = l .rfci; subflows = same ∙ sym (ap placesOf e) ∙ ap (λ x. placesOf (told i x)) here }
 
 same-set : (m : Numbering) (n : ℕ) (x : Force) → expectedNext m n x .set ≡ x .set
 same-set Counted n x = refl
