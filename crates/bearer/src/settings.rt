@@ -1,4 +1,4 @@
-// The settings of an end. Their ranges are those of their types: the limits are checked when they are made.
+// The settings of an end. Their ranges are those of their types: limits are checked when they are made.
 use exchange::limits::Limits;
 
 // How user frames are numbered, modulo 16, from the moment when a set comes into force.
@@ -8,6 +8,13 @@ pub enum Numbering {
     Timed,
     // by the frames sent
     Counted,
+}
+
+// Ticks and repeats of a procedure as an owner gives them, not yet checked.
+#[derive(Clone, Copy)]
+pub struct Timing {
+    pub ticks: u16,
+    pub repeats: u8,
 }
 
 #[derive(Clone, Copy)]
