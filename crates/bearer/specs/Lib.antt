@@ -3,3 +3,4 @@ pub mod Errors
 pub mod Traffics
 pub mod Allowing
 pub mod Ledgers
+pub mod Standing
