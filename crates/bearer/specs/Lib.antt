@@ -4,3 +4,4 @@ pub mod Traffics
 pub mod Allowing
 pub mod Ledgers
 pub mod Chosen
+pub mod Standing

@@ -1,5 +1,6 @@
 // Reads a session script, plays it line by line, and prints what each call answers and reports.
 mod command;
+mod driving;
 mod preparing;
 mod printing;
 mod reading;

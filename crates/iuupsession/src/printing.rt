@@ -6,10 +6,12 @@ use reports::report::Delivery;
 use reports::report::Entry;
 use reports::report::Report;
 use script::unclear::Unclear;
+use set_in_force::in_force::InForce;
+use sets::table::Combination;
 use std::io;
 use std::io::Write;
 
-pub fn print_octets(octets: &[u8], out: &mut impl Write) -> io::Result<()> {
+fn print_octets(octets: &[u8], out: &mut impl Write) -> io::Result<()> {
     for octet in octets {
         write!(out, "{octet:02X}")?;
     }
@@ -99,4 +101,36 @@ pub fn print_report(report: &Report, out: &mut impl Write) -> io::Result<()> {
         }
     }
     Ok(())
+}
+
+fn print_combination(
+    combination: Combination,
+    subflows: u8,
+    out: &mut impl Write,
+) -> io::Result<()> {
+    let rfci = combination.rfci;
+    let ipti = combination.ipti;
+    write!(out, " {rfci}/{ipti}/")?;
+    for (k, size) in combination.sizes.iter().take(subflows as usize).enumerate() {
+        let comma = if k == 0 { "" } else { "," };
+        write!(out, "{comma}{size}")?;
+    }
+    let mark = if combination.allowed { "a" } else { "b" };
+    write!(out, "/{mark}")
+}
+
+// The set in force, each combination with its mark.
+pub fn print_set(set: Option<InForce>, out: &mut impl Write) -> io::Result<()> {
+    let Some(set) = set else {
+        return writeln!(out, "ok none");
+    };
+    let opening = set.table.opening;
+    let subflows = opening.subflows;
+    let timed = if opening.timed { 1u8 } else { 0 };
+    let data_type = opening.data_type;
+    write!(out, "ok {subflows} {timed} {data_type}")?;
+    for combination in set.table.combinations.iter().take(set.table.count) {
+        print_combination(*combination, subflows, out)?;
+    }
+    writeln!(out)
 }

@@ -8,24 +8,23 @@ use script::numbers::read_two_octets;
 use script::unclear::Unclear;
 use script::words::next_word;
 
-// Sizes of subflows: as many as a combination can have, and one more, since all longer lists are refused alike.
+// Sizes of subflows, and how many they are. One more than a combination can have is kept, since all longer lists are refused alike.
 #[derive(Clone, Copy)]
 pub struct Sizes {
     list: [u16; 8],
     count: usize,
-    ghost few: { count ≤ 8 },
 }
 
 impl Sizes {
     pub fn as_slice(&self) -> &[u16] {
-        &self.list[0..self.count]
+        &self.list[0..self.count.min(8)]
     }
 
     fn push(&mut self, size: u16) {
         if self.count < 8 {
             self.list[self.count] = size;
-            self.count += 1;
         }
+        self.count = self.count.saturating_add(1);
     }
 }
 

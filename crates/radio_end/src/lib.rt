@@ -5,6 +5,7 @@ mod opening;
 pub mod received;
 mod receiving;
 mod requests;
+mod standing;
 pub mod state;
 mod taking;
 mod ticking;
