@@ -1,11 +1,12 @@
 -- Error events and user data are no questions of a procedure.
 use Prim.Native.Nat.{ℕ, _+_, _*_, _/_, _%_, _≤_}
 use mathlib.Core.Path.{_≡_, refl, ap}
-use mathlib.Core.Bool.{Bool, true, false, cond, _&&_}
+use mathlib.Core.Bool.{false, cond, _&&_}
 use mathlib.Core.List.{List, [], _∷_}
 use native.Mathlib.Omega.{arith}
 use borrow.Author.Tests.{ne-eqb, leb-true}
 use lib.Dec.{eqb, ltb, leb}
+use Rattle.std.proofs.shelf.Tests.{and-parts, and-right}
 use lib.ListN.{length}
 use Rattle.std.specs.declared.option.Option.{Option}
 use Rattle.std.specs.declared.option.Option.the-variants.{Some, None}
@@ -26,12 +27,8 @@ use Rattle.exchange.proofs.Exchanging.{by-cond}
 use Rattle.bearer.specs.Bearing.{Force}
 use Rattle.bearer.specs.Traffics.{typeOf, framedAs}
 
-and-false : (x : Bool) → (x && false) ≡ false
-and-false true = refl
-and-false false = refl
-
 strange : (n : ℕ) → cond {A = List Mark} (eqb ((224 + n) / 4) 56 && false) (asked ((224 + n) % 4) ∷ []) [] ≡ []
-strange n = ap (λ x. cond {A = List Mark} x (asked ((224 + n) % 4) ∷ []) []) (and-false (eqb ((224 + n) / 4) 56))
+strange n = ap (λ x. cond {A = List Mark} x (asked ((224 + n) % 4) ∷ []) []) (and-right (eqb ((224 + n) / 4) 56) false refl)
 
 pub no-question : (k : Kind) (n d c : ℕ) → question k (errorFrame n d c) ≡ []
 no-question Initialisation n d c = strange n
@@ -52,15 +49,11 @@ bland-frame Plain number fqc rfci payload low k =
     let head : eqb ((16 + number) / 4) 56 ≡ false = ne-eqb ((16 + number) / 4) 56 (omega arith) in
     ap (λ x. cond {A = List Mark} (x && eqb ((fqc * 64 + rfci) % 16) (procedureOf k)) (asked ((16 + number) % 4) ∷ []) []) head
 
-left : (p q : Bool) → p && q ≡ true → p ≡ true
-left true q e = refl
-left false q e = e
-
 bland-data : (type : DataType) (number fqc rfci bits : ℕ) (payload : List ℕ) → Bland (userData type number fqc rfci bits payload)
 bland-data type number fqc rfci bits payload =
     by-cond Bland (eqb (length payload) (octetsFor bits))
     (λ _. by-cond Bland (leb number 15 && leb fqc 3 && leb rfci 63)
-    (λ e. by-cond Bland (ltb longest (length (userFrame type number fqc rfci (padded bits payload)))) (λ _. tt) (λ _. bland-frame type number fqc rfci (padded bits payload) (leb-true number 15 (left (leb number 15) (leb fqc 3) (left (leb number 15 && leb fqc 3) (leb rfci 63) e)))))
+    (λ e. by-cond Bland (ltb longest (length (userFrame type number fqc rfci (padded bits payload)))) (λ _. tt) (λ _. bland-frame type number fqc rfci (padded bits payload) (leb-true number 15 (and-parts (leb number 15) (leb fqc 3) (and-parts (leb number 15 && leb fqc 3) (leb rfci 63) e .0) .0))))
     (λ _. tt))
     (λ _. tt)
 

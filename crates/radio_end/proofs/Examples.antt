@@ -2,28 +2,25 @@
 use Prim.Native.Nat.{ℕ}
 use mathlib.Core.Path.{_≡_, refl}
 use mathlib.Core.Bool.{true, false}
-use mathlib.Core.List.{List, [], _∷_, _++_}
+use mathlib.Core.List.{List, [], _∷_}
 use native.Mathlib.Omega.{arith}
 use Rattle.std.specs.declared.option.Option.the-variants.{Some, None}
-use Rattle.std.specs.declared.result.Result.the-variants.{Ok, Err}
+use Rattle.std.specs.declared.result.Result.the-variants.{Ok}
 use Rattle.frames.specs.declared.number.Number.{Number}
 use Rattle.sets.specs.Rows.{Row}
 use Rattle.sets.specs.Closing.{Contents}
-use Rattle.set_in_force.specs.declared.place.Place.{Place}
 use Rattle.set_in_force.specs.Places.{placesFrom, item}
-use Rattle.reports.specs.declared.ending.Kind.the-variants.{Initialisation, RateControl, TimeAlignment}
+use Rattle.reports.specs.declared.ending.Kind.the-variants.{Initialisation, RateControl}
 use Rattle.reports.specs.declared.ending.Ending.the-variants.{Done, Overtaken}
-use Rattle.reports.specs.Said.{Brought, Happening, began, over, delivered, handed, refused}
+use Rattle.reports.specs.Said.{Happening, began, over, delivered, handed, refused}
 use Rattle.building.specs.Building.{errorFrame}
 use Rattle.exchange.specs.declared.limits.Limits.{Limits}
-use Rattle.exchange.specs.Books.{Books}
 use Rattle.bearer.specs.declared.settings.Settings.{Settings}
 use Rattle.bearer.specs.declared.settings.Numbering.the-variants.{Counted}
 use Rattle.radio_end.specs.declared.received.Received.the-variants.{Delivered, Ack}
-use Rattle.radio_end.specs.declared.state.State.{State}
 use Rattle.radio_end.specs.declared.state.RadioEnd.{RadioEnd}
 use Rattle.radio_end.specs.Runs.{Call, start, report, receive, tick, take, Run, none, then}
-use Rattle.radio_end.specs.Ledger.{books, sets, Sets, Fair, taken, handedOver}
+use Rattle.radio_end.specs.Ledger.{books, sets, Fair, taken, handedOver}
 
 -- a set of one combination: RFCI 3 with subflows of 10 and 6 bits
 abbrev row : Row

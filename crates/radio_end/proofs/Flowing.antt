@@ -8,12 +8,11 @@ use Rattle.std.proofs.shelf.Lists.{take-at}
 use Rattle.std.specs.declared.option.Option.{Option}
 use Rattle.std.specs.declared.option.Option.the-variants.{Some, None}
 use Rattle.std.specs.declared.result.Result.{Result}
-use Rattle.std.specs.declared.result.Result.the-variants.{Ok, Err}
 use Rattle.frames.specs.declared.refusal.Refusal.{Refusal}
 use Rattle.lines.specs.Meaning.{Passed, Took, roomy}
 use Rattle.sets.specs.Closing.{Contents}
 use Rattle.reports.specs.Said.{Happening, handedIn}
-use Rattle.reports.specs.Effects.{Effect, Answered}
+use Rattle.reports.specs.Effects.{Effect}
 use Rattle.exchange.specs.Asking.{Asked}
 use Rattle.bearer.specs.Ledgers.{takenOut}
 use Rattle.radio_end.specs.declared.state.RadioEnd.{RadioEnd}

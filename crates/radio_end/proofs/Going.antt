@@ -1,8 +1,8 @@
 -- What a call does to the meaning of a radio end, for the ledger.
 use Prim.Native.Nat.{ℕ, _<_}
 use mathlib.Core.Path.{_≡_, refl, sym, ap, _∙_, subst}
-use mathlib.Core.Bool.{Bool, true, false, cond}
-use mathlib.Core.List.{List, [], _∷_, _++_}
+use mathlib.Core.Bool.{Bool, false, cond}
+use mathlib.Core.List.{List, []}
 use Rattle.std.specs.declared.option.Option.{Option}
 use Rattle.std.specs.declared.option.Option.the-variants.{Some, None}
 use Rattle.sets.specs.Closing.{Contents}
@@ -11,14 +11,12 @@ use Rattle.reports.specs.declared.ending.Kind.the-variants.{Initialisation, Rat
 use Rattle.reports.specs.Said.{Happening, deliveredIn}
 use Rattle.reports.specs.Effects.{Effect}
 use Rattle.exchange.specs.Books.{Mark, named, doneIn}
-use Rattle.exchange.specs.Asking.{Asked, Watch, watchOf}
+use Rattle.exchange.specs.Asking.{Asked, watchOf}
 use Rattle.exchange.proofs.Moves.{Move, stays}
 use Rattle.exchange.proofs.Exchanging.{Asks}
-use Rattle.bearer.specs.declared.settings.Settings.{Settings}
-use Rattle.bearer.specs.Bearing.{Bearing, Force}
+use Rattle.bearer.specs.Bearing.{Bearing}
 use Rattle.bearer.specs.Ledgers.{Borne}
 use Rattle.radio_end.specs.Radio.{Radio, withBearing}
-use Rattle.radio_end.specs.Steps.{onBearing}
 use Rattle.radio_end.specs.Ledger.{Sets, settled}
 use Rattle.bearer.proofs.Carrying.{setOf, Carries}
 

@@ -2,7 +2,7 @@
 use Prim.Native.Nat.{ℕ}
 use mathlib.Core.Path.{_≡_, refl, sym, ap, _∙_, subst}
 use mathlib.Core.Bool.{Bool, true, false, cond}
-use mathlib.Core.List.{List, [], _∷_}
+use mathlib.Core.List.{List}
 use native.Mathlib.Omega.{arith}
 use Rattle.std.specs.declared.option.Option.{Option}
 use Rattle.std.specs.declared.option.Option.the-variants.{Some, None}
@@ -24,11 +24,11 @@ use Rattle.exchange.specs.declared.exchange.Reply.{Reply}
 use Rattle.exchange.specs.Books.{doneIn}
 use Rattle.exchange.specs.Asking.{Asked, Watch, asking, heard}
 use Rattle.exchange.proofs.Moves.{stays}
-use Rattle.exchange.proofs.Exchanging.{by-cond, watch-asking, Still, Asks, hearing}
+use Rattle.exchange.proofs.Exchanging.{watch-asking, Still, Asks, hearing}
 use Rattle.questions.specs.Forms.{linksForm, rateForm, alignmentForm}
 use Rattle.questions.proofs.Proper.{links-proper, rate-proper, alignment-proper}
 use Rattle.bearer.specs.declared.settings.Settings.{Settings}
-use Rattle.bearer.specs.Bearing.{Bearing, Force, withForce, inForce}
+use Rattle.bearer.specs.Bearing.{Bearing, Force, inForce}
 use Rattle.bearer.specs.Errors.{objects}
 use Rattle.bearer.specs.Traffics.{Data, got}
 use Rattle.radio_end.specs.declared.received.Received.{Received}
@@ -37,7 +37,7 @@ use Rattle.radio_end.specs.Steps.{ackReply, nackReply, onBearing, coming, hear
 use Rattle.radio_end.specs.Runs.{receive}
 use Rattle.radio_end.specs.Ledger.{Sets}
 use Rattle.bearer.proofs.Carrying.{setOf, none-borne, objecting, getting}
-use Rattle.radio_end.proofs.Going.{Alone, Sound, Offer, Stored, Goes, unsettled, unmoved, carried}
+use Rattle.radio_end.proofs.Going.{Alone, Sound, Offer, unsettled, unmoved, carried}
 use Rattle.radio_end.proofs.Requesting.{Fits, make}
 
 -- a set comes into force in the call that names its initialisation as done

@@ -1,5 +1,5 @@
 -- What the requests do, for the ledger.
-use Prim.Native.Nat.{ℕ, _+_, _%_, _<_}
+use Prim.Native.Nat.{ℕ, _<_}
 use mathlib.Core.Path.{_≡_, refl, sym, ap, _∙_}
 use mathlib.Core.Bool.{Bool, true, false, cond}
 use mathlib.Core.List.{List, [], _∷_, _++_, append-nil}
@@ -18,7 +18,7 @@ use Rattle.reports.specs.declared.ending.Kind.the-variants.{Initialisation, Rat
 use Rattle.reports.specs.Said.{Happening, began, handed, deliveredIn}
 use Rattle.reports.specs.Effects.{Effect}
 use Rattle.exchange.specs.Books.{Mark, announced, closed, asked, same, question, named, doneIn}
-use Rattle.exchange.specs.Asking.{Asked, Watch, Headed, watchOf}
+use Rattle.exchange.specs.Asking.{Asked, Headed, watchOf}
 use Rattle.exchange.proofs.Moves.{Move, stays, begins, closes}
 use Rattle.exchange.proofs.Exchanging.{by-cond, only, read}
 use Rattle.questions.specs.Forms.{linksForm, linksFit, rateForm, alignmentForm}

@@ -1,5 +1,5 @@
 -- The law of whole runs, call by call.
-use Prim.Native.Nat.{ℕ, _≤_}
+use Prim.Native.Nat.{ℕ}
 use mathlib.Core.Path.{_≡_, refl, sym, ap, _∙_, subst}
 use mathlib.Core.Bool.{Bool}
 use mathlib.Core.List.{List, [], _∷_, _++_, append-nil, append-assoc}
@@ -9,7 +9,6 @@ use Rattle.std.specs.declared.option.Option.the-variants.{Some, None}
 use Rattle.std.specs.declared.result.Result.{Result}
 use Rattle.frames.specs.declared.refusal.Refusal.{Refusal}
 use Rattle.sets.specs.Closing.{Contents}
-use Rattle.reports.specs.declared.ending.Kind.{Kind}
 use Rattle.reports.specs.declared.ending.Kind.the-variants.{Initialisation, RateControl, TimeAlignment}
 use Rattle.reports.specs.Said.{Happening, handedIn, deliveredIn}
 use Rattle.reports.specs.Effects.{Effect}
@@ -25,9 +24,9 @@ use Rattle.radio_end.specs.declared.state.RadioEnd.{RadioEnd}
 use Rattle.radio_end.specs.Radio.{Radio, radio, opened}
 use Rattle.radio_end.specs.Steps.{timed, tickedLinks, tickedRate, tickedAlignment}
 use Rattle.radio_end.specs.Runs.{Call, start, rate, align, send, report, seek, receive, tick, take, Answers, Ticks, Step, Run, none, then}
-use Rattle.radio_end.specs.Ledger.{sayings, marks, books, settled, after, sets, Fair, takesOut, taken, handedOver}
-use Rattle.radio_end.specs.Law.{Lawful, RunsHold}
-use Rattle.bearer.proofs.Carrying.{setOf, reporting, sending-data}
+use Rattle.radio_end.specs.Ledger.{sayings, marks, books, after, sets, Fair, takesOut, taken, handedOver}
+use Rattle.radio_end.specs.Law.{RunsHold}
+use Rattle.bearer.proofs.Carrying.{reporting, sending-data}
 use Rattle.radio_end.proofs.Going.{Sound, Stored, Goes, unmoved, as-it-was, carried}
 use Rattle.radio_end.proofs.Requesting.{started-fits, rated-fits, aligned-fits}
 use Rattle.radio_end.proofs.Hearing.{received-fits}
