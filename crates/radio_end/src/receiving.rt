@@ -59,26 +59,25 @@ impl<L: Line> RadioEnd<L> {
                 self.deliver(user, report)
             }
             Frame::Question {
-                number: _,
                 version,
                 procedure,
                 checksum,
-                place: _,
                 payload,
+                ..
             } => { self.question(procedure, version, checksum, payload, report) }
             Frame::Ack {
                 number,
                 version,
                 procedure,
-                place: _,
                 payload,
+                ..
             } => { self.answer(procedure, ack_reply(version, payload), number, report) }
             Frame::Nack {
                 number,
                 version,
                 procedure,
-                place: _,
                 payload,
+                ..
             } => { self.answer(procedure, nack_reply(version, payload), number, report) }
         }
     }
