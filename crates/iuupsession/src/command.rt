@@ -157,7 +157,7 @@ impl Cursor<'_> {
 }
 
 // A line is understood as a whole: nothing may follow what it asks for.
-pub fn understand(line: &[u8]) -> Result<Command, Unclear> {
+pub(crate) fn understand(line: &[u8]) -> Result<Command, Unclear> {
     let mut cursor = Cursor::new(line);
     let command = match read_verb(cursor.word()?)? {
         Verb::Draft => cursor.draft()?,

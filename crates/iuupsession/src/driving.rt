@@ -46,7 +46,7 @@ fn take<L: Line>(radio: &mut RadioEnd<L>, out: &mut impl Write) -> io::Result<()
     }
 }
 
-pub fn drive<L: Line>(
+pub(crate) fn drive<L: Line>(
     radio: &mut RadioEnd<L>,
     call: Call,
     set: Option<Set>,

@@ -51,7 +51,7 @@ fn settings(wishes: Wishes) -> Result<Settings, Refusal> {
 }
 
 impl Prepared {
-    pub fn new() -> Prepared {
+    pub(crate) fn new() -> Prepared {
         Prepared {
             draft: None,
             set: None,
@@ -61,7 +61,7 @@ impl Prepared {
     }
 
     // A draft that cannot be opened leaves the former in place.
-    pub fn open_draft(
+    pub(crate) fn open_draft(
         &mut self,
         subflows: u8,
         timed: bool,
@@ -77,7 +77,7 @@ impl Prepared {
         }
     }
 
-    pub fn add(
+    pub(crate) fn add(
         &mut self,
         rfci: u8,
         ipti: u8,
@@ -95,7 +95,7 @@ impl Prepared {
     }
 
     // An empty draft stays open.
-    pub fn close(&mut self, out: &mut impl Write) -> io::Result<()> {
+    pub(crate) fn close(&mut self, out: &mut impl Write) -> io::Result<()> {
         let Some(draft) = self.draft.take() else {
             return print_missing("draft", out);
         };
@@ -108,7 +108,7 @@ impl Prepared {
         }
     }
 
-    pub fn settle(&mut self, wishes: Wishes, out: &mut impl Write) -> io::Result<()> {
+    pub(crate) fn settle(&mut self, wishes: Wishes, out: &mut impl Write) -> io::Result<()> {
         match settings(wishes) {
             Ok(settings) => {
                 self.settings = Some(settings);
@@ -118,7 +118,7 @@ impl Prepared {
         }
     }
 
-    pub fn measure_cells(&mut self, count: u64, out: &mut impl Write) -> io::Result<()> {
+    pub(crate) fn measure_cells(&mut self, count: u64, out: &mut impl Write) -> io::Result<()> {
         match CellCount::new(count as usize) {
             Ok(count) => {
                 self.size = Some(LineSize::Cells(count));
@@ -128,7 +128,7 @@ impl Prepared {
         }
     }
 
-    pub fn measure_ring(&mut self, octets: u64, out: &mut impl Write) -> io::Result<()> {
+    pub(crate) fn measure_ring(&mut self, octets: u64, out: &mut impl Write) -> io::Result<()> {
         match RingSize::new(octets as usize) {
             Ok(size) => {
                 self.size = Some(LineSize::Ring(size));

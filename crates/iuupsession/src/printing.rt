@@ -18,12 +18,12 @@ fn print_octets(octets: &[u8], out: &mut impl Write) -> io::Result<()> {
     Ok(())
 }
 
-pub fn print_refusal(refusal: Refusal, out: &mut impl Write) -> io::Result<()> {
+pub(crate) fn print_refusal(refusal: Refusal, out: &mut impl Write) -> io::Result<()> {
     let number = refusal.number();
     writeln!(out, "no {number}")
 }
 
-pub fn print_answer(answer: Result<(), Refusal>, out: &mut impl Write) -> io::Result<()> {
+pub(crate) fn print_answer(answer: Result<(), Refusal>, out: &mut impl Write) -> io::Result<()> {
     match answer {
         Ok(()) => writeln!(out, "ok"),
         Err(refusal) => print_refusal(refusal, out),
@@ -31,11 +31,11 @@ pub fn print_answer(answer: Result<(), Refusal>, out: &mut impl Write) -> io::Re
 }
 
 // A line that asks for something that is not there.
-pub fn print_missing(what: &str, out: &mut impl Write) -> io::Result<()> {
+pub(crate) fn print_missing(what: &str, out: &mut impl Write) -> io::Result<()> {
     writeln!(out, "? there is no {what}")
 }
 
-pub fn print_unclear(unclear: Unclear, out: &mut impl Write) -> io::Result<()> {
+pub(crate) fn print_unclear(unclear: Unclear, out: &mut impl Write) -> io::Result<()> {
     let why = match unclear {
         Unclear::Name => "an unknown word",
         Unclear::Words => "too few words, or too many",
@@ -86,7 +86,7 @@ fn print_frame(what: &str, octets: &[u8], out: &mut impl Write) -> io::Result<()
 }
 
 // The entries of a report, each on a line of its own.
-pub fn print_report(report: &Report, out: &mut impl Write) -> io::Result<()> {
+pub(crate) fn print_report(report: &Report, out: &mut impl Write) -> io::Result<()> {
     for entry in report.entries() {
         write!(out, "  ")?;
         match *entry {
@@ -120,7 +120,7 @@ fn print_combination(
 }
 
 // The set in force, each combination with its mark.
-pub fn print_set(set: Option<InForce>, out: &mut impl Write) -> io::Result<()> {
+pub(crate) fn print_set(set: Option<InForce>, out: &mut impl Write) -> io::Result<()> {
     let Some(set) = set else {
         return writeln!(out, "ok none");
     };

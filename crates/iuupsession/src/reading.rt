@@ -16,7 +16,7 @@ pub struct Sizes {
 }
 
 impl Sizes {
-    pub fn as_slice(&self) -> &[u16] {
+    pub(crate) fn as_slice(&self) -> &[u16] {
         &self.list[0..self.count.min(8)]
     }
 
@@ -37,7 +37,7 @@ pub struct Message {
 }
 
 impl Message {
-    pub fn as_slice(&self) -> &[u8] {
+    pub(crate) fn as_slice(&self) -> &[u8] {
         &self.octets[0..self.count]
     }
 }
@@ -48,11 +48,11 @@ pub struct Cursor<'a> {
 }
 
 impl<'a> Cursor<'a> {
-    pub fn new(line: &'a [u8]) -> Cursor<'a> {
+    pub(crate) fn new(line: &'a [u8]) -> Cursor<'a> {
         Cursor { rest: line }
     }
 
-    pub fn word(&mut self) -> Result<&'a [u8], Unclear> {
+    pub(crate) fn word(&mut self) -> Result<&'a [u8], Unclear> {
         let Some(split) = next_word(self.rest) else {
             return Err(Unclear::Words);
         };
@@ -61,27 +61,27 @@ impl<'a> Cursor<'a> {
     }
 
     // No word may be left.
-    pub fn end(&self) -> Result<(), Unclear> {
+    pub(crate) fn end(&self) -> Result<(), Unclear> {
         match next_word(self.rest) {
             Some(_) => Err(Unclear::Words),
             None => Ok(()),
         }
     }
 
-    pub fn number(&mut self, most: u64) -> Result<u64, Unclear> {
+    pub(crate) fn number(&mut self, most: u64) -> Result<u64, Unclear> {
         read_number(self.word()?, most)
     }
 
-    pub fn octet(&mut self) -> Result<u8, Unclear> {
+    pub(crate) fn octet(&mut self) -> Result<u8, Unclear> {
         read_octet(self.word()?)
     }
 
-    pub fn two_octets(&mut self) -> Result<u16, Unclear> {
+    pub(crate) fn two_octets(&mut self) -> Result<u16, Unclear> {
         read_two_octets(self.word()?)
     }
 
     // All words that are left are sizes.
-    pub fn sizes(&mut self) -> Result<Sizes, Unclear> {
+    pub(crate) fn sizes(&mut self) -> Result<Sizes, Unclear> {
         let mut sizes = Sizes {
             list: [0; 8],
             count: 0,
@@ -97,7 +97,7 @@ impl<'a> Cursor<'a> {
     }
 
     // A word of hexadecimal digits, or - for no octets.
-    pub fn message(&mut self) -> Result<Message, Unclear> {
+    pub(crate) fn message(&mut self) -> Result<Message, Unclear> {
         match self.word()? {
             b"-" => Ok(Message {
                 octets: [0; 513],

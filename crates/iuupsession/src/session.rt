@@ -37,7 +37,7 @@ fn is_silent(line: &[u8]) -> bool {
 }
 
 impl Session {
-    pub fn new() -> Session {
+    pub(crate) fn new() -> Session {
         Session {
             prepared: Prepared::new(),
             in_cells: None,
@@ -116,7 +116,7 @@ impl Session {
     }
 
     // One line of the script: its echo, and what it answers.
-    pub fn play(&mut self, line: &[u8], out: &mut impl Write) -> io::Result<()> {
+    pub(crate) fn play(&mut self, line: &[u8], out: &mut impl Write) -> io::Result<()> {
         if is_silent(line) {
             return Ok(());
         }
