@@ -1,4 +1,7 @@
 // What both ends share: settings, error events, and user data sent and received.
+
+#![tactic(auto)]
+
 mod asking;
 pub mod bearer;
 mod choosing;

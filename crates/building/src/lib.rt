@@ -1,4 +1,7 @@
 // Frames built into values: the header with its checksums, and the payload after it.
+
+#![tactic(auto)]
+
 pub mod answer;
 mod layout;
 mod padding;

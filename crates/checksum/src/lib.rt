@@ -1,4 +1,7 @@
 // The two checksums of a frame, bit by bit: the highest bit of the first octet first.
+
+#![tactic(auto)]
+
 ghost use Rattle.std.specs.Prelude.{◌≡◌, ℕ, ◌+◌, ◌-◌, ◌*◌, ◌/◌, ◌%◌, ◌^◌, ◌<◌, ◌≤◌, [], ◌∷◌, length, bit_xor};
 ghost use Rattle.checksum.specs.Division.{bits_of, octet_bits, reduced, parity, parity_of, Checks, header_sum, payload_sum};
 

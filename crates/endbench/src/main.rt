@@ -1,5 +1,8 @@
 // Receives user data at a radio end over and over, as often as standard input says: 5, 40 and 500 octets, sets of 1 and 32 combinations, both lines.
 // What was delivered goes to standard output, and the time that it took to standard error.
+
+#![tactic(auto)]
+
 use bearer::settings::{Numbering, Settings};
 use building::answer::build_ack;
 use building::user_data::build_user_data;

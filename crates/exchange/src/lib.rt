@@ -1,4 +1,7 @@
 // A question under supervision: asked, repeated, answered or given up, in one way for every kind of question and every line.
+
+#![tactic(auto)]
+
 mod begin;
 mod bounding;
 pub mod exchange;

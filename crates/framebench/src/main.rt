@@ -1,5 +1,8 @@
 // Reads frames over and over, as often as standard input says: user data with 5, 40 and 500 octets, and an Ack.
 // What was read goes to standard output, and the time that it took to standard error.
+
+#![tactic(auto)]
+
 use building::answer::build_ack;
 use building::user_data::build_user_data;
 use frames::data_type::DataType;

@@ -1,4 +1,7 @@
 // Frames of the Iu user plane: why one is refused, its octets by value, its header, what it says, and how it is built.
+
+#![tactic(auto)]
+
 pub mod cause;
 mod counting;
 pub mod data_type;

@@ -1,4 +1,7 @@
 // Reads a session script, plays it line by line, and prints what each call answers and reports.
+
+#![tactic(auto)]
+
 mod command;
 mod driving;
 mod preparing;

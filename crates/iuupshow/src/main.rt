@@ -1,4 +1,7 @@
 // Reads lines of hexadecimal, and prints for each frame its type, header length and payload length, or "no" and the refusal.
+
+#![tactic(auto)]
+
 use frames::header::Header;
 use frames::refusal::Refusal;
 use showing::gathering::Gathered;

@@ -1,4 +1,7 @@
 // Puts and takes frames on each kind of line, as many as it is told, so that a clock outside can time it.
+
+#![tactic(auto)]
+
 use anyhow::anyhow;
 use cells::cells::Cells;
 use cells::count::CellCount;

@@ -1,4 +1,7 @@
 // Fills each kind of line to the brim and drains it over several wraps, and compares what comes out with what went in.
+
+#![tactic(auto)]
+
 ghost use Rattle.std.specs.Prelude.{◌≤◌};
 ghost use Rattle.frames.specs.Frame.{longest};
 

@@ -1,2 +1,5 @@
 // The links of a closed set as frames.
+
+#![tactic(auto)]
+
 pub mod framing;

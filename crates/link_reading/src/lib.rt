@@ -1,4 +1,7 @@
 // Links read, from any maker, against those held.
+
+#![tactic(auto)]
+
 mod admitting;
 pub mod fields;
 pub mod held;

@@ -1,4 +1,7 @@
 // The questions of the radio end, and the form of the answer to each.
+
+#![tactic(auto)]
+
 pub mod alignment;
 pub mod answer;
 mod answering;

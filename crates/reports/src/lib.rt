@@ -1,4 +1,7 @@
 // What one call caused, in order, and the one way by which a frame leaves: handed to a line, and named.
+
+#![tactic(auto)]
+
 pub mod ending;
 mod reading;
 pub mod report;

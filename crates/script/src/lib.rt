@@ -1,4 +1,7 @@
 // Session scripts: the words of a line, its numbers and marks, and what the line asks for.
+
+#![tactic(auto)]
+
 pub mod marks;
 pub mod names;
 pub mod numbers;

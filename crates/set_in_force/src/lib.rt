@@ -1,4 +1,7 @@
 // The set in force: its combinations looked up, searched, marked, and cut into subflows.
+
+#![tactic(auto)]
+
 mod coming;
 pub mod in_force;
 mod looking;

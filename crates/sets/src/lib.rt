@@ -1,4 +1,7 @@
 // Sets of RAB subflow combinations: opening values, drafts, and closed sets.
+
+#![tactic(auto)]
+
 pub mod closed;
 pub mod closing;
 pub mod draft;

@@ -3,6 +3,9 @@
 //   add RFCI IPTI SIZE ..     adds a combination with the size of each subflow in bits
 //   close                     closes the draft: the links as frames, and where the subflows of each combination lie
 //   find SIZE ..              searches the set that was closed last for a combination of these sizes
+
+#![tactic(auto)]
+
 mod orders;
 mod showing;
 

@@ -1,4 +1,7 @@
 // Frames worked by hand.
+
+#![tactic(auto)]
+
 pub mod table;
 
 #[cfg(test)]
