@@ -1,5 +1,5 @@
 -- Marks of combinations, from RFCI 0 on: a mark bars its combination.
-use Rattle.std.specs.Prelude.{ℕ, Bool, true, false, not, ◌&&◌, ◌||◌, List, [], ◌∷◌, Some, None, Option, nat_lt, slice_index_or}
+use Rattle.std.specs.Prelude.{ℕ, Bool, false, not, ◌&&◌, ◌||◌, List, [], ◌∷◌, Some, None, Option, nat_lt, slice_index_or}
 use Rattle.sets.specs.Rows.{Row}
 
 -- RFCI 0 to 62 have a mark each

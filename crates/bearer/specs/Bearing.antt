@@ -1,6 +1,5 @@
 -- The meaning of what both ends hold.
 use Rattle.std.specs.Prelude.{ℕ, Some, None, Option}
-use Rattle.sets.specs.declared.closed.Set.{Set}
 use Rattle.sets.specs.Closing.{Contents, contents}
 use Rattle.bearer.specs.declared.settings.Settings.{Settings}
 use Rattle.bearer.specs.declared.bearer.Traffic.{Traffic}

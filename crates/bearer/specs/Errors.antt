@@ -1,5 +1,5 @@
 -- Error events that an end sends.
-use Rattle.std.specs.Prelude.{ℕ, ◌+◌, ◌%◌, Bool, cond, List, [], ◌∷◌, length, Some, None, Ok, Err, Option, Result, nat_lt}
+use Rattle.std.specs.Prelude.{ℕ, ◌+◌, ◌%◌, Bool, cond, [], ◌∷◌, length, Some, None, Ok, Err, Option, nat_lt}
 use Rattle.frames.specs.declared.refusal.Refusal.{Refusal}
 use Rattle.frames.specs.declared.refusal.Refusal.TheVariants.{HeaderChecksum, PayloadChecksum, PduType, Procedure, ReservedValue, TooShort, UnexpectedPduType, UnexpectedProcedure, UnknownRfci, UnexpectedValue, ModeVersion, TooLong, SettingRange, HostHoldsQuestion, NotThisQuestion, LinkTooLong, LineDeclines, WrongPhase, AlreadyRuns, RfciBarred, OctetCount, RfciTaken, Dimensions, TooManyCombinations, NoCombination, ValueRange, Hexadecimal, NoSuchSizes, BufferTooSmall}
 use Rattle.frames.specs.declared.cause.Cause.{Cause}

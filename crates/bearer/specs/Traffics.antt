@@ -1,5 +1,5 @@
 -- User data: sent, received, and numbered.
-use Rattle.std.specs.Prelude.{◌≡◌, ℕ, ◌+◌, ◌-◌, ◌%◌, Bool, true, false, cond, not, ◌&&◌, List, [], ◌∷◌, ◌++◌, length, Some, None, Ok, Err, Option, Result, ◌==◌, nat_lt}
+use Rattle.std.specs.Prelude.{◌≡◌, ℕ, ◌+◌, ◌-◌, ◌%◌, Bool, true, false, cond, not, ◌&&◌, List, [], ◌∷◌, length, Some, None, Ok, Err, Option, Result, ◌==◌, nat_lt}
 use Rattle.frames.specs.declared.data_type.DataType.{DataType}
 use Rattle.frames.specs.declared.data_type.DataType.TheVariants.{Checked, Plain}
 use Rattle.frames.specs.declared.refusal.Refusal.{Refusal}
@@ -12,7 +12,7 @@ use Rattle.set_in_force.specs.declared.place.Entry.{Entry}
 use Rattle.set_in_force.specs.Places.{places_in}
 use Rattle.payloads.specs.Checks.{summed}
 use Rattle.building.specs.UserData.{user_data}
-use Rattle.reports.specs.Said.{Brought, Happening, delivered, handed}
+use Rattle.reports.specs.Said.{Brought, delivered, handed}
 use Rattle.reports.specs.Effects.{Effect, refuses}
 use Rattle.bearer.specs.declared.settings.Numbering.{Numbering}
 use Rattle.bearer.specs.declared.settings.Numbering.TheVariants.{Timed, Counted}

@@ -1,7 +1,7 @@
 -- What a store holds after one frame more, and after one less.
 use Rattle.std.specs.Prelude.{◌≡◌, ℕ, suc, ◌+◌, ◌-◌, ◌<◌, ◌≤◌, true, [], ◌∷◌, ◌++◌, map, length, slice_index_or, slice_set}
 use Rattle.std.proofs.Common.{sym, ap, ◌∙◌, subst, arith, add-one}
-use Rattle.std.specs.List.{AllByRecursion as All}
+use Rattle.std.specs.List.{AllByRecursion}
 use Rattle.std.proofs.lemmas.List.{map_push, length-map}
 use Rattle.std.proofs.ByRecursion.{All-push, All-from_get_or, All-get_or}
 use Rattle.std.proofs.lemmas.Bool.Decides.{nat_tests}
@@ -12,10 +12,10 @@ use Rattle.cells.specs.Held.{Sound, Filled, AllFilled, frame_of, oldest, held, i
 use Rattle.cells.specs.declared.store.Cell.{Cell}
 use Rattle.cells.specs.declared.store.Store.{Store}
 
-pub all_filled : (s : Store) → AllFilled s → All Filled (in_use s)
+pub all_filled : (s : Store) → AllFilled s → AllByRecursion Filled (in_use s)
 all_filled s f = All-from_get_or Filled (in_use s) bare (λ i h. f i (omega (arith, length-window bare s.cells s.size s.head s.used)))
 
-pub each_filled : (s : Store) → All Filled (in_use s) → AllFilled s
+pub each_filled : (s : Store) → AllByRecursion Filled (in_use s) → AllFilled s
 each_filled s a i h = All-get_or Filled (in_use s) i bare (omega (arith, length-window bare s.cells s.size s.head s.used)) a
 
 -- as many frames wait as cells are in use
@@ -38,7 +38,7 @@ module _ (s : Store) (at : ℕ) (cell : Cell) (wide : length s.cells ≡ 32) (so
     few = sound.few;
     begun = sound.begun;
     within = omega arith;
-    filled = each_filled (put_at s at cell) (subst (All Filled) (sym in_use-put) (All-push Filled (in_use s) cell (all_filled s sound.filled) f));
+    filled = each_filled (put_at s at cell) (subst (AllByRecursion Filled) (sym in_use-put) (All-push Filled (in_use s) cell (all_filled s sound.filled) f));
   }
 
   pub held-put : held (put_at s at cell) ≡ held s ++ frame_of cell ∷ []
@@ -58,11 +58,11 @@ module _ (s : Store) (at : ℕ) (sound : Sound s) (some : 0 < s.used) (is : at �
     few = sound.few;
     begun = rw is (place_below s.size s.head 1 sound.begun (omega (arith, sound.begun)));
     within = omega (arith, sound.within);
-    filled = each_filled (cut s at) (subst (All Filled) in_use-cut (all_filled s sound.filled)).1;
+    filled = each_filled (cut s at) (subst (AllByRecursion Filled) in_use-cut (all_filled s sound.filled)).1;
   }
 
   pub held_cut : held s ≡ oldest s ∷ held (cut s at)
   held_cut = ap (map frame_of) in_use-cut
 
   pub head-filled : Filled (slice_index_or s.cells s.head bare)
-  head-filled = (subst (All Filled) in_use-cut (all_filled s sound.filled)).0
+  head-filled = (subst (AllByRecursion Filled) in_use-cut (all_filled s sound.filled)).0

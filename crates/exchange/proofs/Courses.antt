@@ -1,10 +1,10 @@
 -- The books of an exchange are kept over its whole course.
-use Rattle.std.proofs.Common.{◌≡◌, ℕ, ◌+◌, ◌<◌, ◌≤◌, Bool, true, false, eqb, List, [], ◌∷◌, ◌++◌, Some, None, Option, sym, refl, ap, ◌∙◌, subst, eq-eqb}
-use Rattle.exchange.specs.Asking.{Form, Watch, Proper, begun, sent, ticked, heard}
-use Rattle.exchange.specs.Books.{Mark, opened, announced, asked, waited, same, procedure_of, named, blank, entered, Kept}
+use Rattle.std.proofs.Common.{◌≡◌, ℕ, ◌<◌, ◌≤◌, List, [], ◌∷◌, Some, Option, sym, refl, ◌∙◌, subst, eq-eqb}
+use Rattle.exchange.specs.Asking.{Form, Watch, Proper, begun}
+use Rattle.exchange.specs.Books.{Mark, opened, announced, asked, procedure_of, blank, entered}
 use Rattle.exchange.specs.Course.{Course, asks, ticks, hears, CoursesHold}
 use Rattle.exchange.proofs.Moves.{Booked, begins, moved, kept, blank_idle, entered-++}
-use Rattle.exchange.proofs.Exchanging.{only, Asks, Goes, sends, ticking, hearing}
+use Rattle.exchange.proofs.Exchanging.{only, Asks, sends, ticking, hearing}
 
 module _ (f : Form) (proper : Proper f) (t n : ℕ) (low : 1 ≤ t) (m : ℕ) (lt : m < 4) where
   own : (ms : List Mark) → only f.kind f.kind ms ≡ ms

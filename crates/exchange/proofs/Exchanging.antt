@@ -1,14 +1,14 @@
 -- What becomes of one exchange is a move of its own kind, and is silent for the others.
-use Rattle.std.proofs.Common.{◌≡◌, ℕ, ◌+◌, ◌-◌, ◌*◌, ◌/◌, ◌%◌, ◌<◌, ◌≤◌, Bool, true, false, cond, ◌&&◌, ◌||◌, eqb, ltb, List, [], ◌∷◌, ◌++◌, length, Some, None, Option, sym, refl, ap, ◌∙◌, ap₂, append_assoc, append-nil, arith, ltb-true, eq-eqb, ne_eqb}
+use Rattle.std.proofs.Common.{◌≡◌, ℕ, ◌+◌, ◌/◌, ◌%◌, ◌<◌, Bool, true, false, cond, ◌&&◌, ◌||◌, eqb, ltb, List, [], ◌∷◌, ◌++◌, length, Some, None, Option, sym, refl, ap, ◌∙◌, append_assoc, append-nil, arith, ltb-true, eq-eqb}
 use Rattle.reports.specs.declared.ending.Kind.{Kind}
 use Rattle.reports.specs.declared.ending.Ending.{Ending}
 use Rattle.reports.specs.declared.ending.Ending.TheVariants.{Done}
-use Rattle.reports.specs.Said.{Brought, Happening, began, over, delivered, handed, refused, sending, delivered_in}
+use Rattle.reports.specs.Said.{Happening, over, sending, delivered_in}
 use Rattle.exchange.specs.declared.exchange.Reply.{Reply}
 use Rattle.exchange.specs.declared.exchange.Turn.{Turn}
 use Rattle.exchange.specs.declared.exchange.Turn.TheVariants.{Onward, Again, Stop}
-use Rattle.exchange.specs.Asking.{Form, Watch, resumed, meant, asking, watch_of, Headed, Fails, Proper, Outcome, Hearing, judged, ends, begun, repeated, less, sent, again, ticked, turned, heard}
-use Rattle.exchange.specs.Books.{Mark, announced, closed, asked, waited, procedure_of, same, question, notes, named, completes, done_in}
+use Rattle.exchange.specs.Asking.{Form, Watch, resumed, meant, asking, watch_of, Headed, Fails, Proper, Outcome, Hearing, ends, begun, repeated, less, sent, again, ticked, turned, heard}
+use Rattle.exchange.specs.Books.{Mark, closed, asked, waited, procedure_of, same, question, notes, named, completes, done_in}
 use Rattle.exchange.proofs.Moves.{Move, stays, waits, lapses, expires, repeats, advances, closes}
 
 -- cases of a test, without writing out again what it chooses between

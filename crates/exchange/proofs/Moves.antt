@@ -1,7 +1,7 @@
 -- One exchange of any kind, and its books.
-use Rattle.std.proofs.Common.{◌≡◌, ℕ, ◌+◌, ◌-◌, ◌*◌, ◌<◌, ◌≤◌, max, Bool, true, false, cond, eqb, List, [], ◌∷◌, ◌++◌, Some, None, Option, sym, refl, ap, ◌∙◌, subst, mul-le-mul_right, add-mul, one-mul, arith, eq-eqb, ne_eqb}
+use Rattle.std.proofs.Common.{◌≡◌, ℕ, ◌+◌, ◌*◌, ◌<◌, ◌≤◌, cond, eqb, List, [], ◌∷◌, ◌++◌, Some, None, Option, sym, refl, ap, ◌∙◌, subst, mul-le-mul_right, add-mul, one-mul, arith, eq-eqb, ne_eqb}
 use Rattle.exchange.specs.Asking.{Watch, begun, repeated, less}
-use Rattle.exchange.specs.Books.{Mark, opened, announced, closed, asked, waited, Books, count, blank, waits_on, wait_on, enter, entered, Balanced, Bounded, Kept}
+use Rattle.exchange.specs.Books.{Mark, opened, announced, closed, asked, waited, Books, count, blank, waits_on, wait_on, enter, entered, Kept}
 
 room : (r n t : ℕ) → r ≤ n → (r + 1) * t ≤ (1 + n) * t
 room r n t h = let k : r + 1 ≤ 1 + n = omega arith in mul-le-mul_right t k

@@ -1,5 +1,5 @@
 -- The course of one exchange: asked, then any ticks and any answers, whatever the line takes.
-use Rattle.std.specs.Prelude.{ℕ, Bool, List, [], ◌∷◌, ◌++◌, Some, Option}
+use Rattle.std.specs.Prelude.{ℕ, Bool, List, ◌∷◌, ◌++◌, Some, Option}
 use Rattle.exchange.specs.declared.exchange.Reply.{Reply}
 use Rattle.exchange.specs.Asking.{Form, Watch, sent, ticked, heard}
 use Rattle.exchange.specs.Books.{Mark, opened, announced, waited, named, blank, entered, Kept}

@@ -1,5 +1,5 @@
 -- What the header of a frame says, or why the frame is refused.
-use Rattle.std.specs.Prelude.{ℕ, ◌-◌, ◌/◌, Bool, cond, List, length, Ok, Err, Result, ◌==◌, nat_lt, slice_index}
+use Rattle.std.specs.Prelude.{ℕ, ◌-◌, ◌/◌, cond, List, length, Ok, Err, Result, ◌==◌, nat_lt, slice_index}
 use Rattle.checksum.specs.Division.{header_sum}
 use Rattle.frames.specs.declared.refusal.Refusal.{Refusal}
 use Rattle.frames.specs.declared.refusal.Refusal.TheVariants.{TooLong, TooShort, HeaderChecksum}

@@ -70,7 +70,7 @@ fn run(rt: &(impl Env + Print + Alloc)) -> anyhow::Result<()> {
     };
     let length = length.parse::<usize>()?;
     let count = count.parse::<u32>()?;
-    let sum = if name == "cells" {
+    let sum = if name.as_str() == "cells" {
         in_cells(length, count)
     } else {
         in_ring(length, count)

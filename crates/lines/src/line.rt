@@ -1,6 +1,6 @@
 // What a line is: its meaning, the laws of that meaning, and its three calls.
 ghost use Rattle.std.specs.Prelude.{◌≡◌, ℕ, ◌≤◌, Bool, true, List, [], length};
-ghost use Rattle.std.specs.List.{AllByRecursion as All};
+ghost use Rattle.std.specs.List.{AllByRecursion};
 ghost use Rattle.lines.specs.Meaning.{fits, Framed, sends, accepted, roomy, Passed, Took};
 
 use frames::refusal::Refusal;
@@ -31,5 +31,5 @@ pub trait Line {
 
     ghost sized: { (l : Self) (n : ℕ) → takes l n ≡ true → fits n ≡ true };
 
-    ghost framed: { (l : Self) → All Framed (waiting l) };
+    ghost framed: { (l : Self) → AllByRecursion Framed (waiting l) };
 }

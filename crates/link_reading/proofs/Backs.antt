@@ -1,14 +1,12 @@
 -- What is written is read back, part by part.
 -- Assumes nothing.
-use Rattle.std.proofs.Common.{◌≡◌, ℕ, zero, suc, ◌+◌, ◌-◌, ◌*◌, ◌/◌, ◌%◌, ◌<◌, ◌≤◌, Bool, true, false, cond, ◌&&◌, eqb, ltb, leb, List, [], ◌∷◌, ◌++◌, map, length, get_or, take, drop, Some, None, Option, sym, refl, ap, ◌∙◌, one-add, arith}
+use Rattle.std.proofs.Common.{◌≡◌, ℕ, zero, suc, ◌+◌, ◌/◌, ◌%◌, ◌<◌, ◌≤◌, Bool, true, false, cond, eqb, ltb, List, [], ◌∷◌, ◌++◌, length, get_or, drop, Some, sym, refl, ap, ◌∙◌, one-add, arith}
 use Rattle.std.proofs.lemmas.List.{append_assoc, append-nil, length-append, drop_at}
 use Rattle.std.proofs.lemmas.Bool.{le-ltb, and_parts, eq-eqb, ne_eqb, cond-false}
 use Rattle.std.proofs.lemmas.Nat.{div-add-mod', div-mul-add, mod-mul-add}
-use Rattle.std.proofs.lemmas.Bool.Decides.{nat_tests}
 use Rattle.sets.specs.Rows.{Row, free}
-use Rattle.link_reading.specs.declared.fields.Extent.{Extent}
 use Rattle.link_building.specs.Wire.{wide, size_octets, sizes_octets, combination, combinations, nibbles}
-use Rattle.link_reading.specs.Layout.{is_last, is_wide, width, onward, extent, sizes_in, halves, rows_in, ipti_octets}
+use Rattle.link_reading.specs.Layout.{is_last, is_wide, width, onward, extent, sizes_in, halves, rows_in}
 
 -- the sizes
 pub sizes_back : (w : Bool) (ss rest : List ℕ) → sizes_in w (length ss) (sizes_octets w ss ++ rest) ≡ ss

@@ -1,14 +1,14 @@
 -- The links of a closed set are read back.
 -- Assumes nothing.
-use Rattle.std.proofs.Common.{◌≡◌, ℕ, zero, suc, ◌+◌, ◌-◌, ◌*◌, ◌/◌, ◌%◌, ◌<◌, ◌≤◌, Bool, true, false, cond, not, ◌&&◌, ◌||◌, eqb, ltb, leb, ◌⊎◌, List, [], ◌∷◌, ◌++◌, map, length, get_or, take, drop, Some, None, Ok, Err, Option, Result, sym, refl, ap, ◌∙◌, inl, inr, add-zero, one-add, arith}
-use Rattle.std.proofs.lemmas.List.{append_assoc, append-nil, length-append, length-map, length-take, length-drop, drop_at, get_or-append-add, take-map, drop-map, take_all}
-use Rattle.std.proofs.lemmas.Bool.{le-ltb, lt-ltb, eq-eqb, ne_eqb, cases_eq, cases_Bool}
+use Rattle.std.proofs.Common.{◌≡◌, ℕ, zero, suc, ◌+◌, ◌-◌, ◌*◌, ◌/◌, ◌<◌, ◌≤◌, Bool, true, false, cond, not, ◌&&◌, ltb, leb, ◌⊎◌, List, [], ◌∷◌, ◌++◌, length, get_or, take, drop, Some, Ok, sym, refl, ap, ◌∙◌, inl, inr, add-zero, one-add, arith}
+use Rattle.std.proofs.lemmas.List.{append_assoc, length-append, length-take, length-drop, drop_at, get_or-append-add, take_all}
+use Rattle.std.proofs.lemmas.Bool.{le-ltb, eq-eqb, ne_eqb}
 use Rattle.std.proofs.lemmas.Bool.Decides.{nat_tests}
 use Rattle.sets.specs.Rows.{Row, sound, free, Sound}
 use Rattle.link_reading.specs.declared.fields.Extent.{Extent}
 use Rattle.link_reading.specs.declared.fields.Fields.{Fields}
 use Rattle.link_building.specs.Wire.{combination, combinations, nibbles, payload, part, link, links_of}
-use Rattle.link_reading.specs.Layout.{extent, halves, halves_from, rows_in, rows_of, fields_of, subflows_of, timed_of, chain_of, ipti_octets}
+use Rattle.link_reading.specs.Layout.{halves, halves_from, rows_in, rows_of, fields_of, subflows_of, timed_of, chain_of, ipti_octets}
 use Rattle.link_reading.specs.Adding.{add_all}
 use Rattle.link_reading.specs.Holding.{Links, follows, base, in_range, judged_by, judged}
 use Rattle.link_reading.specs.Laws.{read_all, whole, ReadsBack}

@@ -1,13 +1,12 @@
 -- The octets that the rows of a payload take, and that they are there.
 -- Assumes nothing.
-use Rattle.std.proofs.Common.{◌≡◌, ℕ, zero, suc, ◌+◌, ◌-◌, ◌*◌, ◌/◌, ◌%◌, ◌<◌, ◌≤◌, Bool, true, false, cond, eqb, ltb, List, [], ◌∷◌, ◌++◌, length, get_or, take, drop, Some, None, Option, sym, refl, ap, ◌∙◌, inl, inr, ⊎_elim, add-zero, one-add, arith}
-use Rattle.std.proofs.lemmas.Bool.{cases_Bool, ltb-false, ltb-true}
+use Rattle.std.proofs.Common.{◌≡◌, ℕ, zero, suc, ◌+◌, ◌-◌, ◌/◌, ◌%◌, ◌<◌, ◌≤◌, true, false, ltb, List, [], ◌∷◌, length, get_or, drop, Some, None, Option, refl, ap, ◌∙◌, ⊎_elim, add-zero, one-add, arith}
+use Rattle.std.proofs.lemmas.Bool.{cases_Bool, ltb-false}
 use Rattle.std.proofs.lemmas.List.{length-drop, get_or-drop, drop-drop}
 use Rattle.std.proofs.lemmas.Nat.{mod_below}
-use Rattle.sets.specs.Rows.{Row}
 use Rattle.link_reading.specs.declared.fields.Extent.{Extent}
 use Rattle.link_reading.specs.declared.fields.Fields.{Fields}
-use Rattle.link_reading.specs.Layout.{is_last, is_wide, width, onward, extent, sizes_in, row_in, rows_in, subflows_of, timed_of, ipti_octets, ending, fields_of}
+use Rattle.link_reading.specs.Layout.{is_last, is_wide, width, onward, extent, sizes_in, rows_in, subflows_of, timed_of, ipti_octets, ending, fields_of}
 
 -- the octets of so many combinations
 unfoldable pub taken : ℕ → ℕ → List ℕ → ℕ

@@ -1,9 +1,8 @@
 -- The fields of a payload, by its parts.
 -- Assumes nothing.
-use Rattle.std.proofs.Common.{◌≡◌, ℕ, zero, suc, ◌+◌, ◌-◌, ◌*◌, ◌/◌, ◌%◌, ◌<◌, ◌≤◌, Bool, true, false, cond, eqb, ltb, List, [], ◌∷◌, ◌++◌, length, get_or, take, drop, Some, None, Option, sym, refl, ap, ◌∙◌, arith}
+use Rattle.std.proofs.Common.{◌≡◌, ℕ, ◌+◌, ◌-◌, ◌*◌, ◌/◌, ◌<◌, ◌≤◌, Bool, true, false, ltb, List, [], ◌∷◌, length, get_or, drop, Some, None, sym, refl, ap, ◌∙◌, arith}
 use Rattle.std.proofs.lemmas.Bool.{lt-ltb, le-ltb}
 use Rattle.link_reading.specs.declared.fields.Extent.{Extent}
-use Rattle.link_reading.specs.declared.fields.Fields.{Fields}
 use Rattle.link_reading.specs.Layout.{extent, subflows_of, timed_of, chain_of, ipti_octets, ending, fields_of}
 
 pub fields_none : (os : List ℕ) → length os < 1 → fields_of os ≡ None

@@ -1,5 +1,5 @@
 -- What is built is read back.
-use Rattle.std.specs.Prelude.{◌≡◌, ℕ, zero, suc, ◌+◌, ◌≤◌, Bool, true, List, [], ◌∷◌, ◌++◌, length, Ok, Err, Result}
+use Rattle.std.specs.Prelude.{◌≡◌, ℕ, zero, suc, ◌+◌, ◌≤◌, Bool, true, List, ◌++◌, length, Ok, Err, Result}
 use Rattle.frames.specs.declared.refusal.Refusal.{Refusal}
 use Rattle.sets.specs.Rows.{Row, free, Sound}
 use Rattle.link_building.specs.Wire.{link, links_of}

@@ -1,12 +1,12 @@
 -- Every kind of question has what the exchange asks of one.
-use Rattle.std.proofs.Common.{◌≡◌, ℕ, ◌+◌, ◌%◌, ◌<◌, Bool, true, false, cond, ◌&&◌, eqb, ltb, List, refl, ap, arith, ltb-true}
+use Rattle.std.proofs.Common.{◌≡◌, ℕ, ◌+◌, ◌%◌, ◌<◌, Bool, true, false, cond, ◌&&◌, eqb, ltb, List, refl, arith, ltb-true}
 use Rattle.sets.specs.Closing.{Contents}
 use Rattle.link_building.specs.Wire.{links_of}
 use Rattle.reports.specs.declared.ending.Ending.TheVariants.{NoAnswer, Rejected}
 use Rattle.exchange.specs.Books.{completes}
 use Rattle.exchange.specs.declared.exchange.Reply.{Reply}
 use Rattle.exchange.specs.declared.exchange.Reply.TheVariants.{Ack, Nack, Erroneous}
-use Rattle.exchange.specs.Asking.{Form, Proper, Fails}
+use Rattle.exchange.specs.Asking.{Proper, Fails}
 use Rattle.questions.specs.Answers.{alignment_of, alignment_leads, acceptance_of, acceptance_leads}
 use Rattle.questions.specs.Forms.{links_form, rate_form, alignment_form}
 use Rattle.exchange.proofs.Exchanging.{by_cond}

@@ -1,5 +1,5 @@
 -- The form of the answer to each kind of question, and what it leads to.
-use Rattle.std.specs.Prelude.{ℕ, cond, ◌==◌}
+use Rattle.std.specs.Prelude.{cond, ◌==◌}
 use Rattle.reports.specs.declared.ending.Ending.TheVariants.{AlignmentNotSupported, AlignmentNotPossible}
 use Rattle.exchange.specs.declared.exchange.Reply.{Reply}
 use Rattle.exchange.specs.declared.exchange.Reply.TheVariants.{Ack, Nack, Erroneous}

@@ -1,10 +1,10 @@
 -- What the bearer does is done in the end; and an initialisation is done as its answer says.
-use Rattle.std.proofs.Common.{◌≡◌, ℕ, ◌+◌, Bool, true, false, cond, not, eqb, ltb, List, is_some, Some, None, Err, Option, Result, refl, ap}
+use Rattle.std.proofs.Common.{◌≡◌, ℕ, ◌+◌, Bool, true, false, eqb, ltb, List, is_some, Some, None, Err, Option, Result, refl, ap}
 use Rattle.frames.specs.declared.refusal.Refusal.{Refusal}
 use Rattle.sets.specs.Closing.{Contents}
 use Rattle.reports.specs.declared.ending.Kind.TheVariants.{Initialisation}
 use Rattle.reports.specs.Said.{Happening}
-use Rattle.reports.specs.Effects.{Effect, Answered}
+use Rattle.reports.specs.Effects.{Answered}
 use Rattle.exchange.specs.declared.exchange.Reply.{Reply}
 use Rattle.exchange.specs.declared.exchange.Reply.TheVariants.{Ack, Nack, Erroneous}
 use Rattle.exchange.specs.Asking.{Watch, Outcome, Hearing, resumed, heard}

@@ -1,5 +1,5 @@
 -- What a start hands over, whatever it overtakes.
-use Rattle.std.proofs.Common.{◌≡◌, ℕ, Bool, List, [], ◌∷◌, ◌++◌, Some, None, Option, refl, append_assoc}
+use Rattle.std.proofs.Common.{◌≡◌, ℕ, Bool, List, [], ◌∷◌, ◌++◌, Some, None, Option, refl}
 use Rattle.reports.specs.declared.ending.Kind.TheVariants.{Initialisation, RateControl, TimeAlignment}
 use Rattle.reports.specs.Said.{Happening, began, handed, handed_in}
 use Rattle.exchange.specs.Asking.{Asked}

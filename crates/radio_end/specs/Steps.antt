@@ -1,5 +1,5 @@
 -- What each call does to the meaning of a radio end.
-use Rattle.std.specs.Prelude.{ℕ, ◌+◌, ◌%◌, Bool, true, false, cond, not, List, [], ◌∷◌, ◌++◌, length, take, Some, None, Ok, Err, Option, Result}
+use Rattle.std.specs.Prelude.{ℕ, ◌+◌, ◌%◌, Bool, false, cond, not, List, [], ◌∷◌, ◌++◌, length, take, Some, None, Ok, Err, Option, Result}
 use Rattle.frames.specs.declared.refusal.Refusal.{Refusal}
 use Rattle.frames.specs.declared.refusal.Refusal.TheVariants.{WrongPhase, LinkTooLong, LineDeclines, AlreadyRuns, ValueRange, UnexpectedProcedure}
 use Rattle.frames.specs.declared.procedure.Procedure.{Procedure}
@@ -21,12 +21,12 @@ use Rattle.reports.specs.Said.{Happening, began, over, handed}
 use Rattle.reports.specs.Effects.{Effect, refuses}
 use Rattle.exchange.specs.declared.exchange.Reply.{Reply}
 use Rattle.exchange.specs.declared.exchange.Reply.TheVariants.{Ack, Nack, Erroneous}
-use Rattle.exchange.specs.Asking.{Form, Watch, Outcome, Hearing, Asked, asking, begun, ticked, heard}
+use Rattle.exchange.specs.Asking.{Asked, asking, begun, ticked, heard}
 use Rattle.exchange.specs.Books.{done_in}
 use Rattle.questions.specs.Forms.{links_form, links_fit, rate_form, alignment_form}
 use Rattle.bearer.specs.Bearing.{Bearing, Force, with_force, in_force}
-use Rattle.bearer.specs.Errors.{objects, reported}
-use Rattle.bearer.specs.Traffics.{Data, data_sent, got, tick_passed}
+use Rattle.bearer.specs.Errors.{objects}
+use Rattle.bearer.specs.Traffics.{got, tick_passed}
 use Rattle.bearer.specs.Allowing.{allows_one}
 use Rattle.radio_end.specs.declared.received.Received.{Received}
 use Rattle.radio_end.specs.declared.received.Received.TheVariants.{Delivered}

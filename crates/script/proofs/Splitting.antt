@@ -1,7 +1,7 @@
 -- A line splits at the end of its first word.
-use Rattle.std.proofs.Common.{◌≡◌, ℕ, zero, suc, ◌+◌, ◌<◌, ◌≤◌, Bool, true, false, cond, not, eqb, List, [], ◌∷◌, length, get_or, take, drop, sym, refl, ap, ◌∙◌, add-zero, add-suc, arith}
+use Rattle.std.proofs.Common.{◌≡◌, ℕ, suc, ◌+◌, ◌<◌, ◌≤◌, Bool, true, false, cond, not, List, [], ◌∷◌, length, get_or, take, drop, refl, ap, arith}
 use Rattle.std.proofs.lemmas.List.{at_drop_more, at_drop_all}
-use Rattle.script.specs.Words.{is_blank, same, run_of, goes_on, before, words_of}
+use Rattle.script.specs.Words.{is_blank, same, run_of, before, words_of}
 
 pub run_step : (b : Bool) (cs : List ℕ) (i : ℕ) → i < length cs → run_of b (drop i cs) ≡ cond (same b (is_blank (get_or cs i 0))) (suc (run_of b (drop (i + 1) cs))) 0
 unfolding run_of

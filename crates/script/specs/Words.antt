@@ -1,5 +1,5 @@
 -- The words of a line: what stands between blanks.
-use Rattle.std.specs.Prelude.{ℕ, suc, Bool, true, false, cond, not, ◌&&◌, ◌||◌, List, [], ◌∷◌, Some, None, Option, ◌==◌}
+use Rattle.std.specs.Prelude.{ℕ, suc, Bool, true, false, cond, not, ◌||◌, List, [], ◌∷◌, Some, None, Option, ◌==◌}
 use Rattle.script.specs.declared.words.Split.{Split}
 
 -- space, tabulator, and the carriage return that some makers put before a line feed

@@ -1,13 +1,10 @@
 -- Subflows and items, one by one.
 -- Assumes nothing.
-use Rattle.std.proofs.Common.{◌≡◌, ℕ, zero, suc, ◌+◌, ◌-◌, ◌<◌, ◌≤◌, Bool, true, false, cond, ◌&&◌, eqb, leb, List, [], ◌∷◌, map, length, get_or, take, drop, Some, None, Option, sym, refl, ap, ◌∙◌, arith}
+use Rattle.std.proofs.Common.{◌≡◌, ℕ, zero, suc, ◌+◌, ◌<◌, ◌≤◌, List, [], ◌∷◌, length, get_or, take, drop, Some, None, refl, ap, ◌∙◌, arith}
 use Rattle.std.proofs.lemmas.List.{at_drop_more, at_drop_all, get_or-map, get_or-take, length-take-le}
-use Rattle.std.proofs.lemmas.Bool.{and_parts}
-use Rattle.std.proofs.lemmas.Bool.Decides.{nat_tests}
 use Rattle.sets.specs.declared.table.Combination.{Combination}
 use Rattle.sets.specs.declared.table.Table.{Table}
-use Rattle.set_in_force.specs.declared.place.Place.{Place}
-use Rattle.sets.specs.Rows.{Row, row, rows, bits, fresh, fits, sound, table_sound}
+use Rattle.sets.specs.Rows.{row, rows}
 use Rattle.set_in_force.specs.Places.{places_from, item}
 use Rattle.sets.proofs.Rows.{rows-count}
 

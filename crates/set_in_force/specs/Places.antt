@@ -1,5 +1,5 @@
 -- Where the subflows of a combination lie.
-use Rattle.std.specs.Prelude.{ℕ, zero, suc, ◌+◌, ◌/◌, List, [], ◌∷◌, take, Some, None, Option}
+use Rattle.std.specs.Prelude.{ℕ, zero, suc, ◌+◌, List, [], ◌∷◌, take, Some, None, Option}
 use Rattle.set_in_force.specs.declared.place.Place.{Place}
 use Rattle.set_in_force.specs.declared.place.Places.{Places}
 

@@ -1,8 +1,8 @@
 -- What holds of the rows of a closed set.
 -- Assumes nothing.
-use Rattle.std.proofs.Common.{◌≡◌, ◌≤◌, length, sym, arith}
+use Rattle.std.proofs.Common.{arith}
 use Rattle.sets.specs.declared.closed.Set.{Set}
-use Rattle.sets.specs.Rows.{rows, SoundTable}
+use Rattle.sets.specs.Rows.{SoundTable}
 use Rattle.sets.proofs.Rows.{rows-count}
 
 pub set-sound : (s : Set) → SoundTable s.table

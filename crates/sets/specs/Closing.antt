@@ -1,5 +1,5 @@
 -- What closing a draft does.
-use Rattle.std.specs.Prelude.{ℕ, Bool, cond, List, length, Some, None, Ok, Err, Option, Result, ◌==◌}
+use Rattle.std.specs.Prelude.{cond, List, length, Some, None, Ok, Err, Option, Result, ◌==◌}
 use Rattle.frames.specs.declared.refusal.Refusal.{Refusal}
 use Rattle.frames.specs.declared.refusal.Refusal.TheVariants.{NoCombination}
 use Rattle.sets.specs.declared.table.Table.{Table}

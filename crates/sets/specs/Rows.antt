@@ -1,5 +1,5 @@
 -- What a table says: a list of rows, and what holds of the rows of a set.
-use Rattle.std.specs.Prelude.{◌≡◌, ℕ, ◌+◌, ◌≤◌, Bool, true, false, cond, not, ◌&&◌, List, [], ◌∷◌, map, length, take, ◌==◌, nat_le}
+use Rattle.std.specs.Prelude.{◌≡◌, ℕ, ◌+◌, ◌≤◌, Bool, true, cond, not, ◌&&◌, List, [], ◌∷◌, map, length, take, ◌==◌, nat_le}
 use Rattle.sets.specs.declared.table.Combination.{Combination}
 use Rattle.sets.specs.declared.table.Table.{Table}
 

@@ -1,14 +1,10 @@
 -- A line that comes byte by byte, over plain lists and numbers.
-use Rattle.std.proofs.Common.{◌≡◌, ℕ, ◌+◌, ◌/◌, ◌%◌, ◌<◌, ◌≤◌, Bool, true, false, cond, ◌&&◌, eqb, ltb, leb, ◌⊎◌, List, [], ◌∷◌, ◌++◌, length, take, drop, set, Ok, Err, Result, sym, refl, ap, ◌∙◌, inl, inr, arith, length-append}
-use Rattle.std.proofs.lemmas.List.{take_more_set, take_all, take_at, take-append-le, length_push}
-use Rattle.std.proofs.lemmas.Bool.{cases_lt}
+use Rattle.std.proofs.Common.{◌≡◌, ℕ, ◌+◌, ◌%◌, ◌<◌, ◌≤◌, Bool, true, false, cond, ◌&&◌, ltb, ◌⊎◌, List, [], ◌∷◌, ◌++◌, length, take, set, Err, sym, refl, ap, ◌∙◌, inl, inr, arith}
+use Rattle.std.proofs.lemmas.List.{take_more_set, take_all, take-append-le, length_push}
 use Rattle.std.proofs.lemmas.Bool.Decides.{nat_tests}
-use Rattle.frames.specs.declared.refusal.Refusal.{Refusal}
 use Rattle.frames.specs.declared.refusal.Refusal.TheVariants.{TooLong, Hexadecimal}
-use Rattle.frames.specs.declared.header.Header.{Header}
-use Rattle.frames.specs.Headers.{header_in}
-use Rattle.frames.specs.Hex.{is_digit, all_digits, octets_in, hex_in, counted, filled}
-use Rattle.showing.specs.Shown.{headed, shown, capped_at}
+use Rattle.frames.specs.Hex.{is_digit, all_digits}
+use Rattle.showing.specs.Shown.{shown, capped_at}
 
 pub capped_low : (n : ℕ) → capped_at n ≤ 1024 → capped_at n ≡ n
 capped_low n h = grind (arith, nat_tests)

@@ -6,8 +6,8 @@ use Rattle.checksum.proofs.of_octets.Goals as goal
 
 pub loop-octet-preserved : goal.loop-octet-preserved
 loop-octet-preserved c = (
-  octet_step c.args.width c.args.generator c.loop-octet.sum c.with-octet-sum.result c.args.octets.now c.loop-octet.octet-index c.loop-octet-test.true c.with-octet-sum.ensures.is ∙ c.loop-octet.invariant.0,
-  c.with-octet-sum.ensures.small,
+  octet_step c.args.width c.args.generator c.loop-octet.sum c.with_octet-sum.result c.args.octets.now c.loop-octet.octet-index c.loop-octet-test.true c.with_octet-sum.ensures.is ∙ c.loop-octet.invariant.0,
+  c.with_octet-sum.ensures.small,
 )
 
 pub returns : goal.returns

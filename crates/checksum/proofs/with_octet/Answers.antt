@@ -9,8 +9,8 @@ pub loop-place-preserved : goal.loop-place-preserved
 loop-place-preserved c =
     let o = c.args.octet / 2 ^ (c.loop-place.place - 1) in
     let b : bit_and o 1 ≡ o % 2 = and_mask o 1 in
-    let e = rw b at c.with-bit-sum.ensures.is in
-    (bit_step c.args.width c.args.generator c.loop-place.sum c.args.octet c.loop-place.place c.with-bit-sum.result c.loop-place-test.true e ∙ c.loop-place.invariant.0, c.with-bit-sum.ensures.small)
+    let e = rw b at c.with_bit-sum.ensures.is in
+    (bit_step c.args.width c.args.generator c.loop-place.sum c.args.octet c.loop-place.place c.with_bit-sum.result c.loop-place-test.true e ∙ c.loop-place.invariant.0, c.with_bit-sum.ensures.small)
 
 pub returns : goal.returns
 returns c =

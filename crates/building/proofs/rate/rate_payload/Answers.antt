@@ -9,23 +9,23 @@ loop-k-init c =
     let p = c.args.payload.now in
     let b = c.args.bars.now in
     let nine : length p ≡ 9 = search rules in
-    let e = begun c.octets-for-octets.result (length b) b p (omega arith) in
-    let o = c.octets-for-octets.ensures.is in
+    let e = begun c.octets_for-octets.result (length b) b p (omega arith) in
+    let o = c.octets_for-octets.ensures.is in
     ((cc), simp length-set (search rules))
 
 pub loop-k-preserved : goal.loop-k-preserved
 loop-k-preserved c =
     let b = c.args.bars.now in
     let k = c.loop-k.k in
-    let n = c.octets-for-octets.result in
-    let v : c.mark-octet.result ≡ mark_octet (drop (8 * k) b) = c.mark-octet.ensures ∙ ap mark_octet (take_rest b (8 * k)) in
-    (written_more n k c.mark-octet.result b c.loop-k.payload (rate_payload b) (omega arith) (omega arith) v c.loop-k.invariant.0, simp length-set (search rules))
+    let n = c.octets_for-octets.result in
+    let v : c.mark_octet.result ≡ mark_octet (drop (8 * k) b) = c.mark_octet.ensures ∙ ap mark_octet (take_rest b (8 * k)) in
+    (written_more n k c.mark_octet.result b c.loop-k.payload (rate_payload b) (omega arith) (omega arith) v c.loop-k.invariant.0, simp length-set (search rules))
 
 pub returns : goal.returns
 returns c =
     let b = c.args.bars.now in
     let k = c.loop-k.k in
-    let n = c.octets-for-octets.result in
+    let n = c.octets_for-octets.result in
     let e = ended n k (drop (8 * k) b) (take (1 + k) c.loop-k.payload) (rate_payload b) (omega arith) c.loop-k.invariant.0 in
     let s : k ≡ n = omega arith in
     record { written = cc; few = omega arith }

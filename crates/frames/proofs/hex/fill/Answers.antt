@@ -1,4 +1,4 @@
-use Rattle.std.proofs.Common.{◌≡◌, ◌+◌, ◌*◌, ◌<◌, length, arith, rules}
+use Rattle.std.proofs.Common.{◌+◌, ◌*◌, arith, rules}
 use Rattle.frames.proofs.Digits.{digit_at, writing_step, writing_end}
 use Rattle.frames.proofs.hex.fill.Goals as goal
 

@@ -8,5 +8,5 @@ returns-in-0 c = record { says = simp take_rest (search rules); fit = simp (take
 pub returns-in-1 : goal.returns-in-1
 returns-in-1 c = record { says = simp take_rest (search rules); fit = simp (take_rest, length-drop) (search rules) }
 
-pub returns-in-default-kind : goal.returns-in-default-kind
-returns-in-default-kind c = record { says = simp take_rest (search rules); fit = simp (take_rest, length-drop) (search rules) }
+pub returns-in_default-kind : goal.returns-in_default-kind
+returns-in_default-kind c = record { says = simp take_rest (search rules); fit = simp (take_rest, length-drop) (search rules) }

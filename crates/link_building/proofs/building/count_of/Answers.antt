@@ -1,4 +1,4 @@
-use Rattle.std.proofs.Common.{sym, arith, rules}
+use Rattle.std.proofs.Common.{sym, arith}
 use Rattle.sets.proofs.Rows.{rows-count}
 use Rattle.link_building.proofs.building.count_of.Goals as goal
 

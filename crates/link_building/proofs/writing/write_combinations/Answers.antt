@@ -1,15 +1,15 @@
-use Rattle.std.proofs.Common.{◌≡◌, ℕ, ◌+◌, ◌*◌, ◌<◌, ◌≤◌, Bool, cond, eqb, List, [], ◌∷◌, ◌++◌, length, get_or, take, sym, refl, ap, ◌∙◌, arith, rules}
+use Rattle.std.proofs.Common.{◌≡◌, ◌+◌, ◌≤◌, eqb, ◌++◌, length, get_or, sym, ap, ◌∙◌, arith}
 use native.Mathlib.Nat.{sub-zero}
 use Rattle.sets.specs.Rows.{Row, row, rows}
 use Rattle.sets.proofs.Rows.{blank, rows-count}
 use Rattle.sets.proofs.Fitting.{row_fit, row_of}
 use Rattle.link_building.specs.Written.{written}
-use Rattle.link_building.specs.Wire.{part, combinations, combination}
+use Rattle.link_building.specs.Wire.{part, combination}
 use Rattle.link_building.proofs.Writes.{part_length, part_at, combinations_more, combinations_all}
 use Rattle.link_building.proofs.writing.write_combinations.Goals as goal
 
-pub write-combination-requires : goal.write-combination-requires
-write-combination-requires c =
+pub write_combination-requires : goal.write_combination-requires
+write_combination-requires c =
     let t = c.args.set.now.table in
     let f = row_fit t (c.args.from + c.loop-j.j) blank c.args.set.now.sound (omega arith) (omega arith) in
     record { number = omega (arith, f.rfci); few = simp sub-zero (omega (arith, f.count)); room = omega arith }
@@ -25,10 +25,10 @@ loop-j-preserved c =
     let l : length rs ≡ c.args.count = part_length c.args.from c.args.count (rows t) (omega arith) in
     let x = row n (get_or t.combinations (c.args.from + j) blank) in
     let g : get_or rs j (row n blank) ≡ x = part_at c.args.from c.args.count (rows t) j (row n blank) (omega arith) ∙ row_of t (c.args.from + j) blank (omega arith) room in
-    let w = simp sub-zero at c.write-combination.ensures.written in
-    let e : written c.write-combination.new.out ≡ written c.loop-j.out ++ combination (eqb (j + 1) c.args.count) (get_or rs j (row n blank)).rfci (get_or rs j (row n blank)).sizes =
+    let w = simp sub-zero at c.write_combination.ensures.written in
+    let e : written c.write_combination.new.out ≡ written c.loop-j.out ++ combination (eqb (j + 1) c.args.count) (get_or rs j (row n blank)).rfci (get_or rs j (row n blank)).sizes =
     w ∙ ap (λ (r : Row). written c.loop-j.out ++ combination (eqb (j + 1) c.args.count) r.rfci r.sizes) (sym g) in
-    let m = combinations_more rs j (row n blank) (eqb (j + 1) c.args.count) (written c.loop-j.out) (written c.write-combination.new.out) (omega arith) (ap (eqb (j + 1)) (sym l)) e in
+    let m = combinations_more rs j (row n blank) (eqb (j + 1) c.args.count) (written c.loop-j.out) (written c.write_combination.new.out) (omega arith) (ap (eqb (j + 1)) (sym l)) e in
     (m ∙ c.loop-j.invariant.0, omega arith)
 
 pub returns : goal.returns

@@ -1,22 +1,22 @@
-use Rattle.std.proofs.Common.{◌≡◌, ℕ, ◌+◌, ◌*◌, ◌<◌, ◌≤◌, Bool, cond, List, [], ◌∷◌, ◌++◌, length, get_or, take, sym, refl, ap, ◌∙◌, arith, rules}
+use Rattle.std.proofs.Common.{◌≡◌, ℕ, ◌+◌, ◌<◌, ◌≤◌, length, get_or, sym, ap, ◌∙◌, arith, rules}
 use Rattle.sets.specs.Rows.{Row, row, rows}
 use Rattle.sets.proofs.Rows.{blank, rows-count}
 use Rattle.sets.proofs.Fitting.{row_fit, row_of, ipti_small}
 use Rattle.link_building.specs.Written.{written}
-use Rattle.link_building.specs.Wire.{part, nibbles}
+use Rattle.link_building.specs.Wire.{part}
 use Rattle.link_building.proofs.Writes.{part_length, part_at, nibbles_more, nibbles_end}
 use Rattle.link_building.proofs.writing.write_iptis.Goals as goal
 use Rattle.link_building.proofs.writing.write_iptis.Goals.{then-j-count, else-j-count}
 
-pub overflow-mul-high : goal.overflow-mul-high
-overflow-mul-high c =
+pub overflow_mul-high : goal.overflow_mul-high
+overflow_mul-high c =
     let t = c.args.set.now.table in
     let f = row_fit t (c.args.from + c.loop-j.j) blank c.args.set.now.sound (omega arith) (omega arith) in
     let s = ipti_small _ _ _ f in
     search rules
 
-pub overflow-add-high-in-loop-j : goal.overflow-add-high-in-loop-j
-overflow-add-high-in-loop-j c =
+pub overflow_add-high-in-loop-j : goal.overflow_add-high-in-loop-j
+overflow_add-high-in-loop-j c =
     let t = c.args.set.now.table in
     let f = row_fit t (c.args.from + c.loop-j.j) blank c.args.set.now.sound (omega arith) (omega arith) in
     let s = ipti_small _ _ _ f in

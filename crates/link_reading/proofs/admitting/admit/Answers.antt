@@ -1,12 +1,12 @@
-use Rattle.std.proofs.Common.{◌≡◌, ℕ, ◌+◌, ◌-◌, ◌*◌, ◌/◌, ◌%◌, ◌<◌, ◌≤◌, Bool, true, false, cond, List, [], ◌∷◌, ◌++◌, length, get_or, take, drop, Some, None, Ok, Err, sym, refl, ap, ◌∙◌, arith, rules}
+use Rattle.std.proofs.Common.{◌≡◌, ◌+◌, ◌-◌, ◌%◌, true, get_or, take, drop, Ok, Err, sym, refl, ap, ◌∙◌, arith, rules}
 use native.Mathlib.Nat.{sub-zero}
 use lib.Bits.{bit_and}
 use Rattle.std.proofs.lemmas.Nat.{and_mask}
 use Rattle.sets.specs.Rows.{Row, rows}
 use Rattle.sets.specs.Drafts.{admitted_to, grown, entered}
-use Rattle.link_reading.specs.Layout.{is_wide, width, sizes_in, rows_in, rows_of, halves_from, ipti_octets}
+use Rattle.link_reading.specs.Layout.{is_wide, width, sizes_in, rows_in, halves_from}
 use Rattle.link_reading.specs.Adding.{add_all}
-use Rattle.link_reading.proofs.Room.{taken, Roomy, roomy, turn, half_there, rows_in_more, rows_in_none}
+use Rattle.link_reading.proofs.Room.{roomy, turn, half_there, rows_in_more, rows_in_none}
 use Rattle.link_reading.proofs.Holds.{turn-refused, turn_added, all_none}
 use Rattle.link_reading.proofs.admitting.admit.Goals as goal
 
@@ -23,33 +23,33 @@ bounds-payload-at c =
     let b = turn os f c.loop-i.i c.loop-i.at (width f.subflows (is_wide (get_or os c.loop-i.at 0))) (roomy os f c.requires.read) c.loop-i-test.true c.loop-i.invariant.2 refl in
     omega arith
 
-pub overflow-add-at : goal.overflow-add-at
-overflow-add-at c =
+pub overflow_add-at : goal.overflow_add-at
+overflow_add-at c =
     let f = c.args.fields in
     let os = c.args.payload.now in
     let b = turn os f c.loop-i.i c.loop-i.at (width f.subflows (is_wide (get_or os c.loop-i.at 0))) (roomy os f c.requires.read) c.loop-i-test.true c.loop-i.invariant.2 refl in
     search rules
 
-pub read-sizes-sizes-requires : goal.read-sizes-sizes-requires
-read-sizes-sizes-requires c =
+pub read_sizes-sizes-requires : goal.read_sizes-sizes-requires
+read_sizes-sizes-requires c =
     let f = c.args.fields in
     let os = c.args.payload.now in
-    let w = width f.subflows c.has-wide-wide.result in
+    let w = width f.subflows c.has_wide-wide.result in
     let r = roomy os f c.requires.read in
-    let b = turn os f c.loop-i.i c.loop-i.at w r c.loop-i-test.true c.loop-i.invariant.2 (ap (width f.subflows) c.has-wide-wide.ensures) in
+    let b = turn os f c.loop-i.i c.loop-i.at w r c.loop-i-test.true c.loop-i.invariant.2 (ap (width f.subflows) c.has_wide-wide.ensures) in
     record { few = r.few; within = omega arith }
 
-pub ipti-at-ipti-requires : goal.ipti-at-ipti-requires
-ipti-at-ipti-requires c =
+pub ipti_at-ipti-requires : goal.ipti_at-ipti-requires
+ipti_at-ipti-requires c =
     half_there c.args.payload.now c.args.fields c.loop-i.i (roomy c.args.payload.now c.args.fields c.requires.read) c.loop-i-test.true
 
-pub overflow-add-at-in-loop-i-2 : goal.overflow-add-at-in-loop-i-2
-overflow-add-at-in-loop-i-2 c =
+pub overflow_add-at-in-loop-i-2 : goal.overflow_add-at-in-loop-i-2
+overflow_add-at-in-loop-i-2 c =
     let f = c.args.fields in
     let os = c.args.payload.now in
-    let w = width f.subflows c.has-wide-wide.result in
+    let w = width f.subflows c.has_wide-wide.result in
     let r = roomy os f c.requires.read in
-    let b = turn os f c.loop-i.i c.loop-i.at w r c.loop-i-test.true c.loop-i.invariant.2 (ap (width f.subflows) c.has-wide-wide.ensures) in
+    let b = turn os f c.loop-i.i c.loop-i.at w r c.loop-i-test.true c.loop-i.invariant.2 (ap (width f.subflows) c.has_wide-wide.ensures) in
     search rules
 
 pub returns-in-Err : goal.returns-in-Err
@@ -66,9 +66,9 @@ returns-in-Err c =
     let rest = rows_in (f.count - l.i - 1) n (drop (l.at + (1 + w)) os) (drop (l.i + 1) hs) in
     let m = rows_in_more (f.count - l.i) n l.at l.i w os hs (omega arith) refl in
     let b : bit_and o 63 ≡ o % 64 = and_mask o 6 in
-    let E = entered (bit_and o 63) c.ipti-at-ipti.result (take n c.read-sizes-sizes.result) in
-    let s : take n c.read-sizes-sizes.result ≡ sizes_in (is_wide o) n (drop (l.at + 1) os) = c.read-sizes-sizes.ensures ∙ ap (λ x. sizes_in x n (drop (l.at + 1) os)) c.has-wide-wide.ensures in
-    let same : E ≡ R = rw (b, s, c.ipti-at-ipti.ensures) in
+    let E = entered (bit_and o 63) c.ipti_at-ipti.result (take n c.read_sizes-sizes.result) in
+    let s : take n c.read_sizes-sizes.result ≡ sizes_in (is_wide o) n (drop (l.at + 1) os) = c.read_sizes-sizes.ensures ∙ ap (λ x. sizes_in x n (drop (l.at + 1) os)) c.has_wide-wide.ensures in
+    let same : E ≡ R = rw (b, s, c.ipti_at-ipti.ensures) in
     let sub : t.opening.subflows ≡ n = ap (λ p. p.subflows) l.invariant.1 ∙ c.requires.subflows in
     let tim : t.opening.timed ≡ f.timed = ap (λ p. p.timed) l.invariant.1 ∙ c.requires.timed in
     let ans : Err c.in-Err.field-0 ≡ admitted_to t E = simp sub-zero at c.in-Err.ensures.answer in
@@ -83,16 +83,16 @@ loop-i-preserved c =
     let hs = halves_from f.timed f.place os in
     let n = f.subflows in
     let o = get_or os l.at 0 in
-    let w = c.width-of.result in
-    let v : w ≡ width n (is_wide o) = c.width-of.ensures ∙ ap (width n) c.has-wide-wide.ensures in
+    let w = c.width_of.result in
+    let v : w ≡ width n (is_wide o) = c.width_of.ensures ∙ ap (width n) c.has_wide-wide.ensures in
     let t = l.draft.table in
     let R : Row = record { rfci = o % 64; ipti = get_or hs l.i 0; sizes = sizes_in (is_wide o) n (drop (l.at + 1) os); allowed = true } in
     let rest = rows_in (f.count - l.i - 1) n (drop (l.at + (1 + w)) os) (drop (l.i + 1) hs) in
     let m = rows_in_more (f.count - l.i) n l.at l.i w os hs (omega arith) v in
     let b : bit_and o 63 ≡ o % 64 = and_mask o 6 in
-    let E = entered (bit_and o 63) c.ipti-at-ipti.result (take n c.read-sizes-sizes.result) in
-    let s : take n c.read-sizes-sizes.result ≡ sizes_in (is_wide o) n (drop (l.at + 1) os) = c.read-sizes-sizes.ensures ∙ ap (λ x. sizes_in x n (drop (l.at + 1) os)) c.has-wide-wide.ensures in
-    let same : E ≡ R = rw (b, s, c.ipti-at-ipti.ensures) in
+    let E = entered (bit_and o 63) c.ipti_at-ipti.result (take n c.read_sizes-sizes.result) in
+    let s : take n c.read_sizes-sizes.result ≡ sizes_in (is_wide o) n (drop (l.at + 1) os) = c.read_sizes-sizes.ensures ∙ ap (λ x. sizes_in x n (drop (l.at + 1) os)) c.has_wide-wide.ensures in
+    let same : E ≡ R = rw (b, s, c.ipti_at-ipti.ensures) in
     let sub : t.opening.subflows ≡ n = ap (λ p. p.subflows) l.invariant.1 ∙ c.requires.subflows in
     let tim : t.opening.timed ≡ f.timed = ap (λ p. p.timed) l.invariant.1 ∙ c.requires.timed in
     let ans : Ok tt ≡ admitted_to t E = simp sub-zero at c.in-Ok.ensures.answer in

@@ -1,12 +1,12 @@
-use Rattle.std.proofs.Common.{◌≡◌, sym, ap, ◌∙◌, arith, rules}
-use Rattle.std.proofs.lemmas.Bool.{lt-ltb, le-ltb, eq-eqb, ne_eqb}
+use Rattle.std.proofs.Common.{sym, ap, ◌∙◌}
+use Rattle.std.proofs.lemmas.Bool.{lt-ltb, le-ltb, eq-eqb}
 use Rattle.link_reading.specs.Holding.{examined_by, examined}
 use Rattle.link_reading.proofs.Judges.{examined-sound}
 use Rattle.link_reading.proofs.reading.examine.Goals as goal
 
-pub returns-in-default : goal.returns-in-default
+pub returns-in_default : goal.returns-in_default
 unfolding examined
-returns-in-default c = ap examined_by c.in-default.ensures
+returns-in_default c = ap examined_by c.in_default.ensures
 
 pub returns-then-fields-gt32 : goal.returns-then-fields-gt32
 unfolding examined

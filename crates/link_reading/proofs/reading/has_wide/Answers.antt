@@ -1,4 +1,4 @@
-use Rattle.std.proofs.Common.{ℕ, ◌/◌, Bool, eqb, ap}
+use Rattle.std.proofs.Common.{ℕ, ◌/◌, eqb, ap}
 use Rattle.std.proofs.lemmas.Nat.{and_mask}
 use Rattle.link_reading.proofs.reading.has_wide.Goals as goal
 

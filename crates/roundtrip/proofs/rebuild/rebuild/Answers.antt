@@ -6,10 +6,10 @@ use Rattle.roundtrip.proofs.rebuild.rebuild.Goals as goal
 pub returns : goal.returns
 returns c =
     record {
-      again = c.build-again.ensures;
-      same = same_from c.args.octets.now c.build-again.result (λ k. (c.type-inv.octets k).fits) c.build-again.ensures;
+      again = c.build_again.ensures;
+      same = same_from c.args.octets.now c.build_again.result (λ k. (c.type_inv.octets k).fits) c.build_again.ensures;
       reads = built_is_read;
       builds = read_is_built;
       data_reads = data_is_read;
-      data-builds = data_is_built;
+      data_builds = data_is_built;
     }

@@ -1,18 +1,18 @@
-use Rattle.std.proofs.Common.{◌≡◌, ◌+◌, Bool, true, false, ◌&&◌, drop, sym, ap, ◌∙◌}
+use Rattle.std.proofs.Common.{◌+◌, Bool, ◌&&◌, drop, sym, ap, ◌∙◌}
 use Rattle.script.specs.Marks.{all_marks}
 use Rattle.script.proofs.Marking.{marks_step, marks_end}
 use Rattle.script.proofs.marks.all_marks.Goals as goal
 
-pub returns-then-not-is-mark : goal.returns-then-not-is-mark
-returns-then-not-is-mark c =
+pub returns-then-not-is_mark : goal.returns-then-not-is_mark
+returns-then-not-is_mark c =
     let s = marks_step c.args.word.now c.loop-byte.byte-index c.loop-byte-test.true in
-    let n = sym c.is-mark.ensures ∙ c.if-not-is-mark.true in
+    let n = sym c.is_mark.ensures ∙ c.if-not-is_mark.true in
     sym (sym c.loop-byte.invariant ∙ s ∙ ap (λ (b : Bool). b && all_marks (drop (c.loop-byte.byte-index + 1) c.args.word.now)) n)
 
 pub loop-byte-preserved : goal.loop-byte-preserved
 loop-byte-preserved c =
     let s = marks_step c.args.word.now c.loop-byte.byte-index c.loop-byte-test.true in
-    let n = sym c.is-mark.ensures ∙ c.if-not-is-mark.false in
+    let n = sym c.is_mark.ensures ∙ c.if-not-is_mark.false in
     sym (s ∙ ap (λ (b : Bool). b && all_marks (drop (c.loop-byte.byte-index + 1) c.args.word.now)) n) ∙ c.loop-byte.invariant
 
 pub returns : goal.returns

@@ -4,8 +4,8 @@ use Rattle.script.specs.Numbers.{is_decimal}
 use Rattle.script.proofs.Decimal.{decimal_stop, decimal_past, decimal_end}
 use Rattle.script.proofs.numbers.decimal.Goals as goal
 
-pub returns-then-not-is-decimal : goal.returns-then-not-is-decimal
-returns-then-not-is-decimal c =
+pub returns-then-not-is_decimal : goal.returns-then-not-is_decimal
+returns-then-not-is_decimal c =
     let word = c.args.word.now in
     let i = c.loop-byte.byte-index in
     let no_more : (is_decimal (get_or word i 0) && leb c.loop-byte.value 99999999999999999) ≡ false = grind (arith, nat_tests) in

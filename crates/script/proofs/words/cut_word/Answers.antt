@@ -1,4 +1,4 @@
-use Rattle.std.proofs.Common.{◌≡◌, ℕ, ◌<◌, true, false, List, [], length, take, drop, sym, ap, ◌∙◌, arith, length-drop}
+use Rattle.std.proofs.Common.{◌≡◌, ◌<◌, false, length, sym, ap, ◌∙◌, arith, length-drop}
 use Rattle.script.specs.Words.{run_of, words_of}
 use Rattle.script.proofs.Splitting.{first_word, no_words}
 use Rattle.script.proofs.words.cut_word.Goals as goal

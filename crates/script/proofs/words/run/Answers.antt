@@ -1,16 +1,16 @@
-use Rattle.std.proofs.Common.{◌≡◌, Bool, true, false, length, sym, ◌∙◌, arith, rules}
+use Rattle.std.proofs.Common.{◌≡◌, length, sym, ◌∙◌, arith}
 use Rattle.script.proofs.Splitting.{run_stop, run_past, run-whole}
 use Rattle.script.proofs.words.run.Goals as goal
 
-pub returns-then-not-goes-on : goal.returns-then-not-goes-on
-returns-then-not-goes-on c =
-    let n = sym c.goes-on.ensures ∙ c.if-not-goes-on.true in
+pub returns-then-not-goes_on : goal.returns-then-not-goes_on
+returns-then-not-goes_on c =
+    let n = sym c.goes_on.ensures ∙ c.if-not-goes_on.true in
     let s = run_stop c.args.blank c.args.line.now c.loop-i.i c.loop-i-test.true n in
     record { run = sym (sym c.loop-i.invariant ∙ s); within = omega arith }
 
 pub loop-i-preserved : goal.loop-i-preserved
 loop-i-preserved c =
-    let n = sym c.goes-on.ensures ∙ c.if-not-goes-on.false in
+    let n = sym c.goes_on.ensures ∙ c.if-not-goes_on.false in
     run_past c.args.blank c.args.line.now c.loop-i.i c.loop-i-test.true n ∙ c.loop-i.invariant
 
 pub returns : goal.returns

@@ -1,4 +1,4 @@
-use Rattle.std.proofs.Common.{◌≡◌, ℕ, true, false, List, length, drop, sym, ap, ◌∙◌, arith, length-drop}
+use Rattle.std.proofs.Common.{◌≡◌, ℕ, true, false, length, drop, sym, ap, ◌∙◌, arith, length-drop}
 use Rattle.script.specs.Words.{run_of, words_of}
 use Rattle.script.proofs.Splitting.{blanks_skipped, word_follows}
 use Rattle.script.proofs.words.skip_blanks.Goals as goal

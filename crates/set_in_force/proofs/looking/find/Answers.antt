@@ -1,4 +1,4 @@
-use Rattle.std.proofs.Common.{◌≡◌, ◌+◌, ◌≤◌, length, get_or, drop, sym, ap, ◌∙◌, arith, rules}
+use Rattle.std.proofs.Common.{◌+◌, ◌≤◌, length, get_or, drop, sym, ap, ◌∙◌, arith, rules}
 use Rattle.sets.specs.Rows.{rows, row}
 use Rattle.sets.proofs.Rows.{blank, rows_more, rows_short}
 use Rattle.set_in_force.specs.Looks.{index_from}

@@ -1,4 +1,4 @@
-use Rattle.std.proofs.Common.{◌≡◌, ◌-◌, ◌≤◌, length, take, sym, ap, ◌∙◌, arith, length-take, rules}
+use Rattle.std.proofs.Common.{◌≤◌, length, sym, ap, arith, length-take, rules}
 use native.Mathlib.Nat.{sub-zero}
 use Rattle.sets.specs.Rows.{rows}
 use Rattle.sets.proofs.Rows.{blank, rows_short}
@@ -14,8 +14,8 @@ returns-then-index-table c =
     let e = item_past (rows t) c.args.index (omega arith) in
     record { is = ap (told c.args.index) (sym e); few = tt }
 
-pub place-all-bits-requires : goal.place-all-bits-requires
-place-all-bits-requires c =
+pub place_all-bits-requires : goal.place_all-bits-requires
+place_all-bits-requires c =
     let t = c.args.table.now in
     let room : t.count ≤ length t.combinations = search rules in
     let f = row_fit t c.args.index blank c.requires.sound (omega arith) room in
@@ -27,7 +27,7 @@ returns c =
     let room : t.count ≤ length t.combinations = search rules in
     let f = row_fit t c.args.index blank c.requires.sound (omega arith) room in
     let e = row_at t c.args.index blank (omega arith) room in
-    let b = simp sub-zero at c.place-all-bits.ensures.bits in
-    let p = simp sub-zero at c.place-all-bits.ensures.places in
+    let b = simp sub-zero at c.place_all-bits.ensures.bits in
+    let p = simp sub-zero at c.place_all-bits.ensures.places in
     let x = ap (told c.args.index) (sym e) in
     record { is = cc; few = omega (arith, f.bits) }

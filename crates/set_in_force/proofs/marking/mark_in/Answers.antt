@@ -1,8 +1,6 @@
-use Rattle.std.proofs.Common.{◌≡◌, ◌-◌, ◌≤◌, true, length, sym, refl, ap, ◌∙◌, arith, rules}
+use Rattle.std.proofs.Common.{◌≡◌, true, sym, refl, ap, ◌∙◌}
 use native.Mathlib.Nat.{sub-zero}
-use Rattle.sets.specs.Rows.{rows, sound, table_sound}
-use Rattle.set_in_force.specs.Marks.{marked}
-use Rattle.set_in_force.specs.Single.{marked_at}
+use Rattle.sets.specs.Rows.{rows, sound}
 use Rattle.set_in_force.proofs.Markings.{sound-marked, marked_first, marked_none, none_fresh}
 use Rattle.set_in_force.proofs.marking.mark_in.Goals as goal
 
@@ -18,8 +16,8 @@ returns-in-Some c =
     ap (sound u.opening.subflows u.opening.timed) r ∙ sound-marked _ _ c.args.allowed i (rows t) ∙ ap (λ o. sound o.subflows o.timed (rows t)) e ∙ c.requires.sound in
     record { rows = r ∙ simp sub-zero at m; opening = e; whole = c.mark_at.ensures.whole; count = c.mark_at.ensures.count; sound = s }
 
-pub returns-in-default : goal.returns-in-default
-returns-in-default c =
+pub returns-in_default : goal.returns-in_default
+returns-in_default c =
     let t = c.args.table.now in
-    let f = none_fresh c.args.rfci 0 (rows t) c.in-default.ensures.is in
+    let f = none_fresh c.args.rfci 0 (rows t) c.in_default.ensures.is in
     record { rows = sym (marked_none c.args.rfci c.args.allowed (rows t) f); opening = refl; whole = refl; count = refl; sound = c.requires.sound }

@@ -1,4 +1,4 @@
-use Rattle.std.proofs.Common.{◌≡◌, ◌+◌, ◌<◌, ◌≤◌, [], ◌∷◌, ◌++◌, length, get_or, take, drop, set, sym, ap, ◌∙◌, append_assoc, arith, length-set, rules}
+use Rattle.std.proofs.Common.{◌≡◌, ◌+◌, ◌<◌, [], ◌∷◌, ◌++◌, length, get_or, take, drop, sym, ap, ◌∙◌, append_assoc, arith, length-set, rules}
 use Rattle.std.proofs.lemmas.List.{take_more_set, append-nil}
 use Rattle.sets.proofs.Rows.{bits_more, bits_all}
 use Rattle.set_in_force.specs.declared.place.Place.{Place}
@@ -6,8 +6,8 @@ use Rattle.set_in_force.specs.Places.{places_from}
 use Rattle.set_in_force.proofs.Subflows.{places_more, places_all}
 use Rattle.set_in_force.proofs.placing.place_all.Goals as goal
 
-pub overflow-add-first : goal.overflow-add-first
-overflow-add-first c =
+pub overflow_add-first : goal.overflow_add-first
+overflow_add-first c =
     let b = bits_more c.args.sizes.now c.loop-k.k (omega arith) in
     search rules
 

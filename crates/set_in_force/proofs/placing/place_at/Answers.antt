@@ -1,4 +1,4 @@
-use Rattle.std.proofs.Common.{sym, arith, rules}
+use Rattle.std.proofs.Common.{sym, arith}
 use Rattle.set_in_force.proofs.Subflows.{item_past, item_at}
 use Rattle.set_in_force.proofs.placing.place_at.Goals as goal
 

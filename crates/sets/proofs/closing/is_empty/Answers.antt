@@ -1,4 +1,4 @@
-use Rattle.std.proofs.Common.{arith, rules}
+use Rattle.std.proofs.Common.{rules}
 use Rattle.sets.proofs.Rows.{rows-count}
 use Rattle.sets.proofs.closing.is_empty.Goals as goal
 

@@ -1,4 +1,4 @@
-use Rattle.std.proofs.Common.{◌≡◌, ◌+◌, ◌≤◌, true, false, length, get_or, drop, sym, ap, ◌∙◌, arith, rules}
+use Rattle.std.proofs.Common.{◌+◌, ◌≤◌, length, get_or, drop, sym, ap, ◌∙◌, arith, rules}
 use Rattle.sets.specs.Rows.{rows, row, fresh}
 use Rattle.sets.proofs.Rows.{blank, rows_more, rows_short, fresh_other, fresh_same, fresh_all}
 use Rattle.sets.proofs.drafting.is_fresh.Goals as goal

@@ -1,4 +1,4 @@
-use Rattle.std.proofs.Common.{◌≡◌, arith, rules}
+use Rattle.std.proofs.Common.{arith, rules}
 use Rattle.sets.proofs.Rows.{bits_more, bits_all}
 use Rattle.sets.proofs.drafting.total.Goals as goal
 

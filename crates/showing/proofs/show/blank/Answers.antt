@@ -1,4 +1,4 @@
-use Rattle.std.proofs.Common.{◌≡◌, refl}
+use Rattle.std.proofs.Common.{refl}
 use Rattle.frames.specs.Hex.{all_digits}
 use Rattle.showing.proofs.show.blank.Goals as goal
 

@@ -6,7 +6,7 @@ pub returns : goal.returns
 unfolding parity_of parity octet_bits bits_of reduced
 returns c =
     record {
-      octets = c.row-octets.ensures;
+      octets = c.row_octets.ensures;
       table = (
         record { header = refl; tells = refl },
         (

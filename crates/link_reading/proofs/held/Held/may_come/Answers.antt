@@ -1,4 +1,4 @@
-use Rattle.std.proofs.Common.{arith, rules}
+use Rattle.std.proofs.Common.{arith}
 use Rattle.std.proofs.lemmas.Bool.Decides.{nat_tests}
 use Rattle.link_reading.specs.Holding.{follows}
 use Rattle.link_reading.proofs.held.Held.may_come.Goals as goal

@@ -1,11 +1,11 @@
 -- The question is asked for the first time, after its start is named.
-use Rattle.std.proofs.Common.{◌≡◌, ◌<◌, true, List, [], ◌∷◌, ◌++◌, length, sym, refl, ap, ◌∙◌, subst, ap₂, arith, rules}
+use Rattle.std.proofs.Common.{◌≡◌, ◌<◌, [], ◌∷◌, ◌++◌, refl, ap, ◌∙◌, subst, ap₂, arith, rules}
 use Rattle.lines.specs.Meaning.{Passed}
 use Rattle.reports.specs.declared.ending.Kind.TheVariants.{TimeAlignment}
-use Rattle.reports.specs.Said.{said, entered, began, handed, sending, handed_in}
+use Rattle.reports.specs.Said.{entered, began, handed, sending, handed_in}
 use Rattle.exchange.specs.Asking.{exchange_of, begun, sent, watch}
 use Rattle.questions.specs.Forms.{alignment_form}
-use Rattle.radio_end.specs.Radio.{radio, shift}
+use Rattle.radio_end.specs.Radio.{shift}
 use Rattle.radio_end.proofs.state.RadioEnd.ask_alignment.Goals as goal
 
 pub returns : goal.returns

@@ -1,11 +1,11 @@
 -- The exchange after an answer is that of the same question.
-use Rattle.std.proofs.Common.{◌≡◌, ◌<◌, ◌++◌, sym, refl, ap, ◌∙◌, arith}
+use Rattle.std.proofs.Common.{◌<◌, ◌++◌, ap, ◌∙◌, arith}
 use Rattle.reports.specs.Said.{entered}
 use Rattle.exchange.specs.Asking.{meant, watch, heard}
 use Rattle.exchange.proofs.Exchanging.{meant-resumed}
 use Rattle.questions.specs.Forms.{rate_form}
 use Rattle.radio_end.specs.Radio.{radio, marks}
-use Rattle.radio_end.specs.Steps.{with_rate, with_alignment, tells}
+use Rattle.radio_end.specs.Steps.{with_rate, tells}
 use Rattle.radio_end.proofs.state.RadioEnd.hear_rate.Goals as goal
 
 pub returns : goal.returns

@@ -1,8 +1,8 @@
 -- The first link is asked, and what it overtakes is named before it.
-use Rattle.std.proofs.Common.{◌≡◌, ◌<◌, true, List, [], ◌∷◌, ◌++◌, length, sym, refl, ap, ◌∙◌, subst, ap₂, arith, rules}
+use Rattle.std.proofs.Common.{◌≡◌, ◌<◌, [], ◌∷◌, ◌++◌, sym, refl, ap, ◌∙◌, subst, ap₂, arith, rules}
 use Rattle.lines.specs.Meaning.{Passed}
 use Rattle.reports.specs.declared.ending.Kind.TheVariants.{Initialisation}
-use Rattle.reports.specs.Said.{said, entered, began, handed, sending, handed_in}
+use Rattle.reports.specs.Said.{entered, began, handed, sending, handed_in}
 use Rattle.exchange.specs.Asking.{exchange_of, begun, sent, watch}
 use Rattle.questions.specs.Forms.{links_form}
 use Rattle.radio_end.specs.Radio.{radio, offers}

@@ -1,11 +1,10 @@
 -- The exchange after a tick is that of the same question.
-use Rattle.std.proofs.Common.{◌≡◌, ◌++◌, Some, sym, refl, ap, ◌∙◌, subst}
+use Rattle.std.proofs.Common.{ap, ◌∙◌}
 use Rattle.exchange.specs.Asking.{meant, watch, ticked}
 use Rattle.exchange.proofs.Exchanging.{meant-resumed}
 use Rattle.questions.specs.Forms.{links_form}
 use Rattle.radio_end.specs.Radio.{radio, offers}
-use Rattle.radio_end.specs.Steps.{with_links, ticked_links, ticked_rate, ticked_alignment}
-use Rattle.radio_end.specs.Runs.{Does}
+use Rattle.radio_end.specs.Steps.{with_links}
 use Rattle.radio_end.proofs.state.RadioEnd.tick_links.Goals as goal
 
 pub returns : goal.returns

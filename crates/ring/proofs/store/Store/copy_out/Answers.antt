@@ -13,7 +13,7 @@ returns-then-n-left c =
     let wide : s.size ≤ length s.octets = search rules in
     let front = window_front 0 s.octets s.size s.head s.used n c.requires.some in
     let part = part_flat s.octets s.size s.head n c.requires.round.begun (omega arith) wide (omega arith) in
-    let copied = c.copy-from-slice.ensures.after in
+    let copied = c.copy_from_slice.ensures.after in
     let many : s.head + n - s.head ≡ n = omega arith in
     let all : n - 0 ≡ n = omega arith in
     ap (λ x. x ++ drop (n - 0) c.args.out.now) (copied ∙ ap (λ k. take k (drop s.head s.octets)) many ∙ sym part ∙ sym front)
@@ -28,10 +28,10 @@ returns-else-n-left c =
     let part = part_wrap s.octets s.size s.head n c.requires.round.begun (omega arith) wide (s.size - s.head) (omega arith) (omega arith) in
     let left = s.size - s.head in
     let out = c.args.out.now in
-    let a = c.copy-from-slice-else-n-left.new.self in
-    let b = c.copy-from-slice-else-n-left-2.new.self in
-    let first = c.copy-from-slice-else-n-left.ensures.after in
-    let second : b ≡ take (n - left) s.octets = c.copy-from-slice-else-n-left-2.ensures.after ∙ ap (λ k. take k s.octets) (omega arith) in
+    let a = c.copy_from_slice-else-n-left.new.self in
+    let b = c.copy_from_slice-else-n-left-2.new.self in
+    let first = c.copy_from_slice-else-n-left.ensures.after in
+    let second : b ≡ take (n - left) s.octets = c.copy_from_slice-else-n-left-2.ensures.after ∙ ap (λ k. take k s.octets) (omega arith) in
     let long : length a ≡ left = ap length first ∙ search (rules, places) in
     let all : left - 0 ≡ left = omega arith in
     ap (λ k. put_mid left (n - left) (a ++ drop k out) b) all

@@ -17,5 +17,5 @@ returns c =
       content =
           ap (λ p. window 0 s.octets s.size p (s.used - n)) is
           ∙ sym (window-behind 0 s.octets s.size s.head s.used n c.requires.round.begun c.requires.round.within c.requires.some);
-      out = c.copy-out.ensures;
+      out = c.copy_out.ensures;
     }

@@ -25,7 +25,7 @@ returns c =
             used = ap (λ t. t.used + length w) v.self-is;
             content =
                 ap (λ t. content (after t)) v.self-is
-                ∙ ap (λ y. window 0 (put_mid at _ xs y) s.size s.head (s.used + length w)) v.copy-from-slice.ensures.after
+                ∙ ap (λ y. window 0 (put_mid at _ xs y) s.size s.head (s.used + length w)) v.copy_from_slice.ensures.after
                 ∙ window_flat xs w s.size s.head s.used at c.requires.round.begun c.requires.room wide c.step-next.ensures (omega arith) _ (omega arith);
           }
       | else-n-left v ↦
@@ -35,6 +35,6 @@ returns c =
             used = ap (λ t. t.used + length w) v.self-is;
             content =
                 ap (λ t. content (after t)) v.self-is
-                ∙ window_wrap xs w s.size s.head s.used at c.requires.round.begun c.requires.room wide c.step-next.ensures (s.size - at) (omega arith) (omega arith) _ _ _ _ v.copy-from-slice-else-n-left.ensures.after v.copy-from-slice-else-n-left-2.ensures.after refl (omega arith);
+                ∙ window_wrap xs w s.size s.head s.used at c.requires.round.begun c.requires.room wide c.step-next.ensures (s.size - at) (omega arith) (omega arith) _ _ _ _ v.copy_from_slice-else-n-left.ensures.after v.copy_from_slice-else-n-left-2.ensures.after refl (omega arith);
           }
     ]

@@ -1,6 +1,6 @@
-use Rattle.std.proofs.Common.{◌≡◌, ℕ, ◌+◌, ◌<◌, ◌≤◌, Bool, true, false, cond, ◌&&◌, ltb, List, [], ◌∷◌, ◌++◌, length, take, set, sym, refl, ap, ◌∙◌, arith, rules}
+use Rattle.std.proofs.Common.{◌≡◌, ℕ, ◌+◌, ◌≤◌, Bool, cond, ◌&&◌, ltb, [], ◌∷◌, ◌++◌, length, set, sym, ap, ◌∙◌, arith, rules}
 use Rattle.std.proofs.lemmas.List.{length_push}
-use Rattle.frames.specs.Hex.{all_digits, is_digit}
+use Rattle.frames.specs.Hex.{all_digits}
 use Rattle.showing.specs.Shown.{capped_at}
 use Rattle.showing.proofs.Holding.{capped_low, capped_next, capped_over, digits_push, keeps_one, keeps-full}
 use Rattle.showing.proofs.gathering.Gathered.hold.Goals as goal
@@ -18,7 +18,7 @@ returns c line t h =
     ap (λ (m : ℕ). cond (ltb m 1026) (m + 1) 1025) e in
     let d = h.digits in
     record {
-      count = c.one-more-self.ensures ∙ f ∙ n ∙ ap capped_at (sym l);
+      count = c.one_more-self.ensures ∙ f ∙ n ∙ ap capped_at (sym l);
       digits = ap (λ (x : Bool). x && c.args.digit) d ∙ ap (λ (x : Bool). all_digits line && x) t ∙ sym p;
       kept = elim c.if-count-lt-KEPT.branch [
         | then-count-lt-KEPT v ↦

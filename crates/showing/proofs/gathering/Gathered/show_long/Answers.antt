@@ -1,4 +1,4 @@
-use Rattle.std.proofs.Common.{◌⊎◌, inl, inr, arith}
+use Rattle.std.proofs.Common.{inl, inr, arith}
 use Rattle.showing.proofs.Holding.{long_even, long_strange}
 use Rattle.showing.proofs.gathering.Gathered.show_long.Goals as goal
 use Rattle.showing.proofs.gathering.Gathered.show_long.Goals.{else-self-via-then-self+else-self-eq0, else-self-via-else-self}
