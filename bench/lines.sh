@@ -8,7 +8,8 @@ count=${1:-20000000}
 rounds=7
 folder=$(mktemp -d)
 trap 'rm -rf "$folder"' EXIT
-[ -x target/bin/linebench ] || rt check linebench >/dev/null
+program=crates/linebench/out/linebench
+(cd crates/linebench && rt run -- cells 40 1000 >/dev/null 2>&1)
 rustc -O -o "$folder/deque" bench/deque.rs
 
 # Runs the words after the first, and adds the millions of frames per second to the file named by it.
@@ -32,8 +33,8 @@ echo "millions of frames per second of processor time, 8 waiting, $count frames,
 for length in 4 40 255 512; do
   rm -f "$folder"/*.rates "$folder/sums"
   for _ in $(seq "$rounds"); do
-    once cells target/bin/linebench cells "$length" "$count"
-    once ring target/bin/linebench ring "$length" "$count"
+    once cells "$program" cells "$length" "$count"
+    once ring "$program" ring "$length" "$count"
     once deque "$folder/deque" "$length" "$count"
   done
   [ "$(sort -u "$folder/sums" | wc -l)" = 1 ] || { echo "the sums differ" >&2; exit 1; }

@@ -57,11 +57,11 @@ window-cut d xs size head n some =
     ap (window d xs size head) one
 
 -- an item of the window
-pub get_d_window : {X : Type 0} (d : X) (xs : List X) (size head n k : ℕ) → head < size → n ≤ size → k < n → get_or (window d xs size head n) k d ≡ get_or xs (place size head k) d
-get_d_window d xs size head zero k h l i = absurd (omega arith)
-get_d_window d xs size head (suc n) zero h l i = ap (λ p. get_or xs p d) (sym (place-0 size head h))
-get_d_window d xs size head (suc n) (suc k) h l i =
-    get_d_window d xs size (place size head 1) n k (place_below size head 1 h (omega arith)) (omega arith) (omega arith)
+pub get_or-window : {X : Type 0} (d : X) (xs : List X) (size head n k : ℕ) → head < size → n ≤ size → k < n → get_or (window d xs size head n) k d ≡ get_or xs (place size head k) d
+get_or-window d xs size head zero k h l i = absurd (omega arith)
+get_or-window d xs size head (suc n) zero h l i = ap (λ p. get_or xs p d) (sym (place-0 size head h))
+get_or-window d xs size head (suc n) (suc k) h l i =
+    get_or-window d xs size (place size head 1) n k (place_below size head 1 h (omega arith)) (omega arith) (omega arith)
     ∙ ap (λ p. get_or xs p d) (place_more size head k h (omega arith))
 
 -- a write of many items behind the window, given place by place
@@ -75,9 +75,9 @@ window_puts d xs ys w size head n h l old new =
     (λ i g.
     let long = length-window d ys size head (n + length w) in
     let short = length-window d xs size head n in
-    get_d_window d ys size head (n + length w) i h l (omega arith)
+    get_or-window d ys size head (n + length w) i h l (omega arith)
     ∙ ⊎_elim
-    (λ below. old i below ∙ sym (get_d_window d xs size head n i h (omega arith) below) ∙ sym (get_or_append_left (window d xs size head n) w d i (omega arith)))
+    (λ below. old i below ∙ sym (get_or-window d xs size head n i h (omega arith) below) ∙ sym (get_or_append_left (window d xs size head n) w d i (omega arith)))
     (λ above.
     let is : n + (i - n) ≡ i = omega arith in
     ap (λ j. get_or ys (place size head j) d) (sym is) ∙ new (i - n) (omega arith) ∙ sym (get_or-append_right (window d xs size head n) w n i d short above))
@@ -108,4 +108,4 @@ pub window_is : {X : Type 0} (d : X) (xs w : List X) (size head : ℕ) → head 
 window_is d xs w size head h l same =
     let long = length-window d xs size head (length w) in
     ext_get_or d (window d xs size head (length w)) w long
-    (λ k i. get_d_window d xs size head (length w) k h l (omega arith) ∙ sym (same k (omega arith)))
+    (λ k i. get_or-window d xs size head (length w) k h l (omega arith) ∙ sym (same k (omega arith)))
