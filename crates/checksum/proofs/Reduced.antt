@@ -1,8 +1,8 @@
 -- The laws of `reduced`: it is below 2 ^ w, and linear.
 -- Assumes nothing.
-use Rattle.std.proofs.Common.{◌≡◌, ℕ, zero, suc, ◌+◌, ◌*◌, ◌/◌, ◌%◌, ◌^◌, ◌<◌, ◌≤◌, Bool, true, false, cond, ltb, ◌⊎◌, sym, refl, ap, ◌∙◌, subst, inl, inr, arith}
-use lib.Bits.{bit_xor, xor_assoc, xor_self, xor_zero_l, xor_zero_r}
-use Rattle.std.proofs.lemmas.Nat.{pow_pos, pow-add, xor_lt, xor_shr, xor_comm, div_below, le-div, shr_split, mod_below, shl_whole, mul-lt}
+use Rattle.std.proofs.Common.{◌≡◌, ℕ, zero, suc, ◌+◌, ◌*◌, ◌/◌, ◌%◌, ◌^◌, ◌<◌, ◌≤◌, ltb, ap, ◌∙◌, inl, inr, arith}
+use lib.Bits.{bit_xor}
+use Rattle.std.proofs.lemmas.Nat.{pow_pos, pow-add, xor_lt, xor_shr, div_below, le-div, shr_split, mod_below, shl_whole}
 use Rattle.std.proofs.lemmas.Bool.{cases_lt, lt-ltb, le-ltb, cond-true, cond-false}
 use Rattle.checksum.specs.Division.{reduced}
 

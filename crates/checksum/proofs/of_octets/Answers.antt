@@ -1,4 +1,4 @@
-use Rattle.std.proofs.Common.{◌≡◌, drop, sym, ◌∙◌}
+use Rattle.std.proofs.Common.{◌≡◌, sym, ◌∙◌}
 use Rattle.checksum.specs.Division.{octet_bits, parity, parity_of}
 use Rattle.checksum.proofs.Steps.{octet_step, octet_end}
 use Rattle.checksum.proofs.Linear.{checks, bits-octets}

@@ -1,7 +1,6 @@
-use Rattle.std.proofs.Common.{◌≡◌, ◌-◌, ◌*◌, ◌/◌, ◌%◌, ◌^◌, sym, ap, ◌∙◌}
-use lib.Bits.{bit_and, bit_xor}
+use Rattle.std.proofs.Common.{◌≡◌, ◌-◌, ◌/◌, ◌%◌, ◌^◌, sym, ◌∙◌}
+use lib.Bits.{bit_and}
 use Rattle.std.proofs.lemmas.Nat.{and_mask}
-use Rattle.checksum.specs.Division.{reduced}
 use Rattle.checksum.proofs.Steps.{bit_step, bit_end}
 use Rattle.checksum.proofs.with_octet.Goals as goal
 
