@@ -1,6 +1,6 @@
 -- The packed form, read back.
 use Rattle.std.proofs.Common.{◌≡◌, ℕ, zero, suc, ◌+◌, ◌*◌, ◌/◌, ◌%◌, ◌<◌, ◌≤◌, true, List, [], ◌∷◌, ◌++◌, length, get_or, take, drop, sym, refl, ap, ◌∙◌, subst, append_assoc, append-nil, div-add-mod', arith, length-append}
-use Rattle.std.specs.List.{AllByRecursion as All}
+use Rattle.std.specs.List.{AllByRecursion}
 use Rattle.std.proofs.lemmas.List.{take_at, drop_at}
 use Rattle.std.proofs.ByRecursion.{All-push, All-from_get_or, All-get_or}
 use Rattle.frames.specs.Frame.{longest}
@@ -46,10 +46,10 @@ held_is s fs e =
     let same = ap length e in
     ap (unpacked s.used) e ∙ unpacked-packed fs s.used (omega (arith, length-packed fs))
 
-all_framed : (fs : List (List ℕ)) → EachFramed fs → All Framed fs
+all_framed : (fs : List (List ℕ)) → EachFramed fs → AllByRecursion Framed fs
 all_framed fs f = All-from_get_or Framed fs [] f
 
-each_framed : (fs : List (List ℕ)) → All Framed fs → EachFramed fs
+each_framed : (fs : List (List ℕ)) → AllByRecursion Framed fs → EachFramed fs
 each_framed fs a k h = All-get_or Framed fs k [] h a
 
 pub sound_is : (s : Store) (fs : List (List ℕ)) → Round s → least ≤ s.size → content s ≡ packed fs → EachFramed fs → Sound s
@@ -97,10 +97,10 @@ module _ (s : Store) (sound : Sound s) (some : 0 < s.used) where
   content_first = sym sound.whole ∙ ap packed held_first
 
   pub oldest-framed : Framed (oldest s)
-  oldest-framed = (subst (All Framed) held_first (all_framed (held s) sound.framed)).0
+  oldest-framed = (subst (AllByRecursion Framed) held_first (all_framed (held s) sound.framed)).0
 
   pub rest_framed : EachFramed (drop 1 (held s))
-  rest_framed = each_framed (drop 1 (held s)) (subst (All Framed) held_first (all_framed (held s) sound.framed)).1
+  rest_framed = each_framed (drop 1 (held s)) (subst (AllByRecursion Framed) held_first (all_framed (held s) sound.framed)).1
 
   -- what is read in front of the oldest frame
   module _ (high low : ℕ) (behind left : List ℕ) (a : content s ≡ high ∷ behind) (b : behind ≡ low ∷ left) where
