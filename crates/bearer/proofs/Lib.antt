@@ -1,4 +1,3 @@
-pub mod Allowed
 pub mod Sayings
 pub mod Unasked
 pub mod Cutting

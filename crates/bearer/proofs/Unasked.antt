@@ -1,6 +1,6 @@
 -- Error events and user data are no questions of a procedure.
 use Rattle.std.proofs.Common.{◌≡◌, ℕ, ◌+◌, ◌*◌, ◌/◌, ◌%◌, ◌≤◌, false, cond, ◌&&◌, eqb, ltb, leb, List, [], ◌∷◌, length, Some, None, Ok, Err, Option, Result, refl, ap, arith, ne_eqb, leb-true}
-use Rattle.std.proofs.lemmas.Bool.{and_parts, and_right}
+use Rattle.std.proofs.lemmas.Bool.{and_parts, and_right, cond_both}
 use Rattle.frames.specs.declared.refusal.Refusal.{Refusal}
 use Rattle.frames.specs.declared.data_type.DataType.{DataType}
 use Rattle.frames.specs.declared.data_type.DataType.TheVariants.{Checked, Plain}
@@ -8,13 +8,13 @@ use Rattle.frames.specs.Extent.{octets_for}
 use Rattle.frames.specs.Frame.{longest}
 use Rattle.building.specs.Building.{error_frame}
 use Rattle.building.specs.UserData.{user_frame, user_data, padded}
-use Rattle.set_in_force.specs.Looks.{Found}
+use Rattle.set_in_force.specs.declared.place.Found.{Found}
 use Rattle.reports.specs.declared.ending.Kind.{Kind}
 use Rattle.reports.specs.declared.ending.Kind.TheVariants.{Initialisation, RateControl, TimeAlignment, HostQuestion}
 use Rattle.exchange.specs.Books.{Mark, asked, procedure_of, question}
-use Rattle.exchange.proofs.Exchanging.{by_cond}
 use Rattle.bearer.specs.Bearing.{Force}
-use Rattle.bearer.specs.Traffics.{type_of, framed_as}
+use Rattle.sets.specs.Openings.{data_type_of}
+use Rattle.bearer.specs.Traffics.{framed_as}
 
 strange : (n : ℕ) → cond {A = List Mark} (eqb ((224 + n) / 4) 56 && false) (asked ((224 + n) % 4) ∷ []) [] ≡ []
 strange n = ap (λ x. cond {A = List Mark} x (asked ((224 + n) % 4) ∷ []) []) (and_right (eqb ((224 + n) / 4) 56) false refl)
@@ -40,12 +40,12 @@ bland_frame Plain number fqc rfci payload low k =
 
 bland_data : (type : DataType) (number fqc rfci bits : ℕ) (payload : List ℕ) → Bland (user_data type number fqc rfci bits payload)
 bland_data type number fqc rfci bits payload =
-    by_cond Bland (eqb (length payload) (octets_for bits))
-    (λ _. by_cond Bland (leb number 15 && leb fqc 3 && leb rfci 63)
-    (λ e. by_cond Bland (ltb longest (length (user_frame type number fqc rfci (padded bits payload)))) (λ _. tt) (λ _. bland_frame type number fqc rfci (padded bits payload) (leb-true number 15 (and_parts (leb number 15) (leb fqc 3) (and_parts (leb number 15 && leb fqc 3) (leb rfci 63) e).0).0)))
+    cond_both (eqb (length payload) (octets_for bits)) _ _ Bland
+    (λ _. cond_both (leb number 15 && leb fqc 3 && leb rfci 63) _ _ Bland
+    (λ e. cond_both (ltb longest (length (user_frame type number fqc rfci (padded bits payload)))) _ _ Bland (λ _. tt) (λ _. bland_frame type number fqc rfci (padded bits payload) (leb-true number 15 (and_parts (leb number 15) (leb fqc 3) (and_parts (leb number 15 && leb fqc 3) (leb rfci 63) e).0).0)))
     (λ _. tt))
     (λ _. tt)
 
 pub bland_as : (rfci fqc : ℕ) (payload : List ℕ) (x : Force) (o : Option Found) → Bland (framed_as rfci fqc payload x o)
 bland_as rfci fqc payload x None = tt
-bland_as rfci fqc payload x (Some c) = by_cond Bland c.allowed (λ _. bland_data (type_of x.set) x.sending fqc rfci c.bits payload) (λ _. tt)
+bland_as rfci fqc payload x (Some c) = cond_both c.allowed _ _ Bland (λ _. bland_data (data_type_of x.set.opening.kind) x.sending fqc rfci c.bits payload) (λ _. tt)

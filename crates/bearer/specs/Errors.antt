@@ -1,20 +1,25 @@
 -- Error events that an end sends.
-use Rattle.std.specs.Prelude.{ℕ, ◌+◌, ◌%◌, Bool, cond, [], ◌∷◌, length, Some, None, Ok, Err, Option, nat_lt}
+use Rattle.std.specs.Prelude.{ℕ, ◌+◌, ◌%◌, Bool, [], ◌∷◌, length, Some, None, Ok, Err, Option, Result, nat_lt, if◌then◌else◌}
 use Rattle.frames.specs.declared.refusal.Refusal.{Refusal}
 use Rattle.frames.specs.declared.refusal.Refusal.TheVariants.{HeaderChecksum, PayloadChecksum, PduType, Procedure, ReservedValue, TooShort, UnexpectedPduType, UnexpectedProcedure, UnknownRfci, UnexpectedValue, ModeVersion, TooLong, SettingRange, HostHoldsQuestion, NotThisQuestion, LinkTooLong, LineDeclines, WrongPhase, AlreadyRuns, RfciBarred, OctetCount, RfciTaken, Dimensions, TooManyCombinations, NoCombination, ValueRange, Hexadecimal, NoSuchSizes, BufferTooSmall}
 use Rattle.frames.specs.declared.cause.Cause.{Cause}
 use Rattle.frames.specs.Refusals.{number_of}
-use Rattle.reports.specs.Said.{Happening, handed, sending}
-use Rattle.reports.specs.Effects.{Effect, refuses}
 use Rattle.building.specs.Building.{error_frame}
+use Rattle.reports.specs.declared.happening.Happening.{Happening}
+use Rattle.reports.specs.declared.happening.Happening.TheVariants.{HandedOver}
+use Rattle.reports.specs.Said.{sending}
+use Rattle.reports.specs.Effects.{Effect, refuses}
 use Rattle.bearer.specs.Bearing.{Bearing}
 
 abbrev pub event_used : Bearing → Bearing
-event_used b = record { settings = b.settings; events = (b.events + 1) % 4; force = b.force }
+event_used b = record b { events = (b.events + 1) % 4 }
 
 -- an error event of the end's own, distance 0: it is lost where the line does not take it, and its number is used up all the same
 abbrev pub event : (ℕ → Bool) → ℕ → Bearing → Happening
 event takes cause b = sending (takes (length (error_frame b.events 0 cause))) (error_frame b.events 0 cause)
+
+abbrev pub tells : (ℕ → Bool) → ℕ → Bearing → Effect Bearing (Unit {0})
+tells takes cause b = record { next = event_used b; says = event takes cause b ∷ []; answer = tt }
 
 -- the refusals of a received frame that go back, by the cause that tells each: its own number
 abbrev pub cause_of : Refusal → Option ℕ
@@ -53,17 +58,17 @@ value_of None = None
 value_of (Some c) = Some c.value
 
 -- a received frame is refused; where the refusal goes back, an error event tells its cause
-abbrev pub objects_by : {A : Type 0} → (ℕ → Bool) → Option ℕ → Refusal → Bearing → Effect Bearing A
+abbrev pub objects_by : {A : Type 0} → (ℕ → Bool) → Option ℕ → Refusal → Bearing → Effect Bearing (Result A Refusal)
 objects_by takes None e b = refuses b e
 objects_by takes (Some cause) e b = record { next = event_used b; says = event takes cause b ∷ []; answer = Err e }
 
-abbrev pub objects : {A : Type 0} → (ℕ → Bool) → Refusal → Bearing → Effect Bearing A
+abbrev pub objects : {A : Type 0} → (ℕ → Bool) → Refusal → Bearing → Effect Bearing (Result A Refusal)
 objects takes e b = objects_by takes (cause_of e) e b
 
 -- an upper layer's error, distance 1
-abbrev pub reported : (ℕ → Bool) → ℕ → Bearing → Effect Bearing (Unit {0})
+abbrev pub reported : (ℕ → Bool) → ℕ → Bearing → Effect Bearing (Result (Unit {0}) Refusal)
 reported takes cause b =
-    cond (nat_lt 63 cause) (refuses b ValueRange)
-    (cond (takes (length (error_frame b.events 1 cause)))
-    (record { next = event_used b; says = handed (error_frame b.events 1 cause) ∷ []; answer = Ok tt })
-    (refuses b LineDeclines))
+    let frame = error_frame b.events 1 cause in
+    if nat_lt 63 cause then refuses b ValueRange
+    else if takes (length frame) then record { next = event_used b; says = HandedOver frame ∷ []; answer = Ok tt }
+    else refuses b LineDeclines

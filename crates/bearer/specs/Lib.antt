@@ -4,4 +4,3 @@ pub mod Traffics
 pub mod Allowing
 pub mod Ledgers
 pub mod Chosen
-pub mod Standing

@@ -1,44 +1,35 @@
 -- User data: sent, received, and numbered.
-use Rattle.std.specs.Prelude.{◌≡◌, ℕ, ◌+◌, ◌-◌, ◌%◌, Bool, true, false, cond, not, ◌&&◌, List, [], ◌∷◌, length, Some, None, Ok, Err, Option, Result, ◌==◌, nat_lt}
-use Rattle.frames.specs.declared.data_type.DataType.{DataType}
-use Rattle.frames.specs.declared.data_type.DataType.TheVariants.{Checked, Plain}
+use Rattle.std.specs.Prelude.{◌≡◌, ℕ, ◌+◌, ◌-◌, ◌%◌, Bool, true, false, if◌then◌else◌, List, [], ◌∷◌, length, Some, None, Ok, Err, Option, Result, ◌==◌, nat_lt}
+use Rattle.frames.specs.declared.frame.DataHeader.{DataHeader}
+use Rattle.frames.specs.declared.frame.UserData.{UserData}
 use Rattle.frames.specs.declared.refusal.Refusal.{Refusal}
 use Rattle.frames.specs.declared.refusal.Refusal.TheVariants.{WrongPhase, RfciBarred, LineDeclines, UnexpectedPduType, UnknownRfci, TooShort, UnexpectedValue, PayloadChecksum}
 use Rattle.frames.specs.Extent.{octets_for}
 use Rattle.frames.specs.DataTypes.{data_number}
-use Rattle.sets.specs.Closing.{Contents}
-use Rattle.set_in_force.specs.Looks.{Found, looked_up, Searched}
-use Rattle.set_in_force.specs.declared.place.Entry.{Entry}
-use Rattle.set_in_force.specs.Places.{places_in}
+use Rattle.sets.specs.Openings.{data_type_of}
+use Rattle.set_in_force.specs.declared.place.Found.{Found}
+use Rattle.set_in_force.specs.Looks.{looked_up, Searched}
 use Rattle.payloads.specs.Checks.{summed}
 use Rattle.building.specs.UserData.{user_data}
-use Rattle.reports.specs.Said.{Brought, delivered, handed}
+use Rattle.reports.specs.declared.happening.Delivery.{Delivery}
+use Rattle.reports.specs.declared.happening.Happening.TheVariants.{Delivered, HandedOver}
 use Rattle.reports.specs.Effects.{Effect, refuses}
 use Rattle.bearer.specs.declared.settings.Numbering.{Numbering}
 use Rattle.bearer.specs.declared.settings.Numbering.TheVariants.{Timed, Counted}
-use Rattle.bearer.specs.declared.bearer.UserFrame.{UserFrame}
+use Rattle.bearer.specs.declared.settings.Settings.{Settings}
 use Rattle.bearer.specs.Bearing.{Force, Bearing, with_force}
 use Rattle.bearer.specs.Errors.{event_used, event, objects}
 
--- the PDU type of a set's user data
-abbrev pub type_of : Contents → DataType
-type_of c = cond (c.opening.kind == 0) Checked Plain
-
--- the next number, modulo 16: after a frame in counted numbering, after a tick in timed numbering
-abbrev pub after_frame : Numbering → ℕ → ℕ
-after_frame Counted n = (n + 1) % 16
-after_frame Timed n = n
-
-abbrev pub after_tick : Numbering → ℕ → ℕ
-after_tick Counted n = n
-after_tick Timed n = (n + 1) % 16
-
-abbrev pub sending_next : ℕ → Force → Force
-sending_next n x = record { set = x.set; sending = n; expected = x.expected }
+-- the next number, modulo 16: after each frame in counted numbering, after each tick in timed numbering
+abbrev pub numbered : (numbering by : Numbering) → Force → Force
+numbered Counted Counted x = record x { sending = (x.sending + 1) % 16 }
+numbered Timed Timed x = record x { sending = (x.sending + 1) % 16 }
+numbered Counted Timed x = x
+numbered Timed Counted x = x
 
 abbrev pub time_passed : Numbering → Option Force → Option Force
 time_passed m None = None
-time_passed m (Some x) = Some (sending_next (after_tick m x.sending) x)
+time_passed m (Some x) = Some (numbered m Timed x)
 
 abbrev pub tick_passed : Bearing → Bearing
 tick_passed b = with_force (time_passed b.settings.numbering b.force) b
@@ -46,38 +37,35 @@ tick_passed b = with_force (time_passed b.settings.numbering b.force) b
 -- the next frame: no such combination, or a barred one; what cannot be built
 abbrev pub framed_as : (rfci fqc : ℕ) → List ℕ → Force → Option Found → Result (List ℕ) Refusal
 framed_as rfci fqc payload x None = Err RfciBarred
-framed_as rfci fqc payload x (Some c) = cond c.allowed (user_data (type_of x.set) x.sending fqc rfci c.bits payload) (Err RfciBarred)
+framed_as rfci fqc payload x (Some c) = if c.allowed then user_data (data_type_of x.set.opening.kind) x.sending fqc rfci c.bits payload else Err RfciBarred
 
 abbrev pub frame_for : (rfci fqc : ℕ) → List ℕ → Force → Result (List ℕ) Refusal
 frame_for rfci fqc payload x = framed_as rfci fqc payload x (looked_up rfci x.set.combinations)
 
 -- it is handed over and the number used, or refused
-abbrev pub passes : (ℕ → Bool) → Bearing → Force → Result (List ℕ) Refusal → Effect Bearing (Unit {0})
+abbrev pub passes : (ℕ → Bool) → Bearing → Force → Result (List ℕ) Refusal → Effect Bearing (Result (Unit {0}) Refusal)
 passes takes b x (Err e) = refuses b e
 passes takes b x (Ok f) =
-    cond (takes (length f))
-    (record { next = with_force (Some (sending_next (after_frame b.settings.numbering x.sending) x)) b; says = handed f ∷ []; answer = Ok tt })
-    (refuses b LineDeclines)
+    if takes (length f)
+    then record { next = with_force (Some (numbered b.settings.numbering Counted x)) b; says = HandedOver f ∷ []; answer = Ok tt }
+    else refuses b LineDeclines
 
-abbrev pub data_on : (ℕ → Bool) → ℕ → ℕ → List ℕ → Bearing → Option Force → Effect Bearing (Unit {0})
+abbrev pub data_on : (ℕ → Bool) → ℕ → ℕ → List ℕ → Bearing → Option Force → Effect Bearing (Result (Unit {0}) Refusal)
 data_on takes rfci fqc payload b None = refuses b WrongPhase
 data_on takes rfci fqc payload b (Some x) = passes takes b x (frame_for rfci fqc payload x)
 
-abbrev pub data_sent : (ℕ → Bool) → ℕ → ℕ → List ℕ → Bearing → Effect Bearing (Unit {0})
+abbrev pub data_sent : (ℕ → Bool) → ℕ → ℕ → List ℕ → Bearing → Effect Bearing (Result (Unit {0}) Refusal)
 data_sent takes rfci fqc payload b = data_on takes rfci fqc payload b b.force
 
 -- user data as it was read
 pub record Data : Type 0 where
-  pub type : DataType
-  pub number : ℕ
-  pub fqc : ℕ
-  pub rfci : ℕ
+  pub header : DataHeader
   pub checksum : Option ℕ
   pub place : ℕ
   pub payload : List ℕ
 
-abbrev pub data_of : UserFrame → Data
-data_of f = record { type = f.data_type; number = f.number; fqc = f.fqc; rfci = f.rfci; checksum = f.checksum; place = f.place; payload = f.payload.now }
+abbrev pub data_of : UserData → Data
+data_of d = record { header = d.header; checksum = d.checksum; place = d.place; payload = d.payload.now }
 
 -- whether the payload is not what its checksum says
 abbrev pub fails : Result (Unit {0}) Refusal → Bool
@@ -93,44 +81,71 @@ gap_of Counted expected number = (number + 16 - expected) % 16
 gap_of Timed expected number = 0
 
 abbrev pub expected_next : Numbering → ℕ → Force → Force
-expected_next Counted number x = record { set = x.set; sending = x.sending; expected = (number + 1) % 16 }
+expected_next Counted number x = record x { expected = (number + 1) % 16 }
 expected_next Timed number x = x
 
--- what is told of a delivery: damaged user data is told as bad
-abbrev pub brings : Data → Numbering → Force → Found → Brought
-brings d m x c = record { rfci = d.rfci; fqc = cond (damaged d.checksum d.payload) 1 d.fqc; gap = gap_of m x.expected d.number; place = d.place; subflows = c.places }
+-- the octets of a combination, and at most 4 of spare extension after them
+abbrev pub fitted : (len bits : ℕ) → Result (Unit {0}) Refusal
+fitted len bits =
+    if nat_lt len (octets_for bits) then Err TooShort
+    else if nat_lt (octets_for bits + 4) len then Err UnexpectedValue
+    else Ok tt
 
-abbrev pub counting : Data → Bearing → Force → Bearing
-counting d b x = with_force (Some (expected_next b.settings.numbering d.number x)) b
+-- damaged user data is told as bad where it is kept, and refused where not
+abbrev pub quality_of : (keeps : Bool) → Data → Result ℕ Refusal
+quality_of keeps d = if damaged d.checksum d.payload then (if keeps then Ok 1 else Err PayloadChecksum) else Ok d.header.fqc
+
+-- what is told of a delivery
+abbrev pub brings : Data → Numbering → Force → Found → (fqc : ℕ) → Delivery
+brings d m x c fqc = record { rfci = d.header.rfci; fqc = fqc; gap = gap_of m x.expected d.header.number; place = d.place; subflows = c.places }
+
+-- user data of a combination: its length, then its quality
+abbrev pub brought_with : Data → Numbering → Force → Found → Result (Unit {0}) Refusal → Result ℕ Refusal → Result Delivery Refusal
+brought_with d m x c (Err e) q = Err e
+brought_with d m x c (Ok u) (Err e) = Err e
+brought_with d m x c (Ok u) (Ok fqc) = Ok (brings d m x c fqc)
+
+-- no such combination, or what is told of it
+abbrev pub brought_of : Settings → Data → Force → Option Found → Result Delivery Refusal
+brought_of s d x None = Err UnknownRfci
+brought_of s d x (Some c) = brought_with d s.numbering x c (fitted (length d.payload) c.bits) (quality_of s.keep_damaged d)
+
+abbrev pub judged : Settings → Data → Force → Result Delivery Refusal
+judged s d x = if data_number d.header.data_type == x.set.opening.kind then brought_of s d x (looked_up d.header.rfci x.set.combinations) else Err UnexpectedPduType
+
+-- what is delivered counts
+abbrev pub counted : Numbering → Data → Result Delivery Refusal → Force → Force
+counted m d (Ok t) x = expected_next m d.header.number x
+counted m d (Err e) x = x
+
+-- the same where a set is in force
+abbrev pub told_on : Settings → Data → Option Force → Result Delivery Refusal
+told_on s d None = Err UnexpectedPduType
+told_on s d (Some x) = judged s d x
+
+abbrev pub told_of : Data → Bearing → Result Delivery Refusal
+told_of d b = told_on b.settings d b.force
+
+abbrev pub counting_on : Numbering → Data → Result Delivery Refusal → Option Force → Option Force
+counting_on m d t None = None
+counting_on m d t (Some x) = Some (counted m d t x)
+
+abbrev pub counting : Data → Result Delivery Refusal → Bearing → Bearing
+counting d t b = with_force (counting_on b.settings.numbering d t b.force) b
 
 -- a delivery, and where there is a gap an error event with cause 3
-abbrev pub delivers : (ℕ → Bool) → Data → Bearing → Force → Found → Effect Bearing (Unit {0})
-delivers takes d b x c =
-    cond (gap_of b.settings.numbering x.expected d.number == 0)
-    (record { next = counting d b x; says = delivered (brings d b.settings.numbering x c) ∷ []; answer = Ok tt })
-    (record { next = event_used (counting d b x); says = delivered (brings d b.settings.numbering x c) ∷ event takes 3 (counting d b x) ∷ []; answer = Ok tt })
+abbrev pub delivers : (ℕ → Bool) → Delivery → Bearing → Effect Bearing (Unit {0})
+delivers takes t b =
+    if t.gap == 0 then record { next = b; says = Delivered t ∷ []; answer = tt }
+    else record { next = event_used b; says = Delivered t ∷ event takes 3 b ∷ []; answer = tt }
 
--- a combination as the code finds it
-abbrev pub found_of : Entry → Found
-found_of e = record { index = e.index; bits = e.bits; allowed = e.allowed; places = places_in e.places }
+-- user data is delivered, or refused
+abbrev pub got_as : (ℕ → Bool) → Data → Result Delivery Refusal → Bearing → Effect Bearing (Result (Unit {0}) Refusal)
+got_as takes d (Err e) b = objects takes e b
+got_as takes d (Ok t) b = let f = delivers takes t (counting d (Ok t) b) in record { next = f.next; says = f.says; answer = Ok tt }
 
--- short; over by more than 4 octets; a wrong checksum that is not kept
-abbrev pub judges : (ℕ → Bool) → Data → Bearing → Force → Option Found → Effect Bearing (Unit {0})
-judges takes d b x None = objects takes UnknownRfci b
-judges takes d b x (Some c) =
-    cond (nat_lt (length d.payload) (octets_for c.bits)) (objects takes TooShort b)
-    (cond (nat_lt (octets_for c.bits + 4) (length d.payload)) (objects takes UnexpectedValue b)
-    (cond (damaged d.checksum d.payload && not b.settings.keep_damaged) (refuses b PayloadChecksum)
-    (delivers takes d b x c)))
-
--- no set in force, or another type; no such combination
-abbrev pub got_on : (ℕ → Bool) → Data → Bearing → Option Force → Effect Bearing (Unit {0})
-got_on takes d b None = objects takes UnexpectedPduType b
-got_on takes d b (Some x) =
-    cond (data_number d.type == x.set.opening.kind) (judges takes d b x (looked_up d.rfci x.set.combinations)) (objects takes UnexpectedPduType b)
-
-abbrev pub got : (ℕ → Bool) → Data → Bearing → Effect Bearing (Unit {0})
-got takes d b = got_on takes d b b.force
+abbrev pub got : (ℕ → Bool) → Data → Bearing → Effect Bearing (Result (Unit {0}) Refusal)
+got takes d b = got_as takes d (told_of d b) b
 
 -- a search changes nothing and says nothing; where a set is in force, it names any one of its combinations with exactly these sizes
 abbrev pub Sought : List ℕ → Option Force → Result ℕ Refusal → Type 0

@@ -1,37 +1,71 @@
-// What an end holds beside its line and its procedures: plain values.
-ghost use Rattle.std.specs.Prelude.{◌≤◌};
+// What an end holds beside its line and its procedures.
+ghost use Rattle.std.specs.Prelude.{◌≡◌, Some, None, option_map};
+ghost use Rattle.bearer.specs.Bearing.{opened, with_force, in_force, standing};
+
+mod asking;
+mod errors;
+mod receiving;
+mod sending;
 
 use crate::settings::Settings;
-use frames::data_type::DataType;
+use crate::traffic::Traffic;
 use frames::number::Number;
 use set_in_force::in_force::InForce;
+use sets::closed::Set;
+use std::marker::Model;
 
-// The set in force, the number of the next frame to send, and the number that is expected next.
-#[derive(Clone, Copy)]
-pub struct Traffic {
-    pub set: InForce,
-    pub sending: u8,
-    pub expected: u8,
-    ghost low: { sending ≤ 15 },
-    ghost next: { expected ≤ 15 },
-}
-
-#[derive(Clone, Copy)]
+#[derive(Drop)]
 pub struct Bearer {
-    pub settings: Settings,
+    settings: Settings,
     // of the next error event
-    pub events: Number,
-    pub traffic: Option<Traffic>,
+    events: Number,
+    traffic: Option<Traffic>,
 }
 
-// User data as it was read.
-#[derive(Clone, Copy)]
-pub struct UserFrame<'a> {
-    pub data_type: DataType,
-    pub number: u8,
-    pub fqc: u8,
-    pub rfci: u8,
-    pub checksum: Option<u16>,
-    pub place: usize,
-    pub payload: &'a [u8],
+impl Model for Bearer {
+    ghost use Rattle.bearer.specs.Bearing.{Bearing};
+
+    ghost Value = { Bearing };
+
+    ghost view = { λ b. record { settings = b.settings; events = b.events.value; force = b.traffic } };
+}
+
+impl Bearer {
+    // No set is in force, and error events are numbered from 0.
+    pub fn new(settings: Settings) -> Bearer
+        ensures { result ≡ opened settings }
+    {
+        Bearer {
+            settings,
+            events: Number::first(),
+            traffic: None,
+        }
+    }
+
+    pub fn settings(&self) -> Settings
+        ensures { result ≡ self.now.settings }
+    {
+        self.settings
+    }
+
+    // A set comes into force: both numbers begin at 0.
+    pub fn enforce(&mut self, set: Set)
+        ensures { self.new ≡ with_force (Some (in_force set)) self.old }
+    {
+        self.traffic = Some(Traffic::of_set(set));
+    }
+
+    // No set is in force any more.
+    pub fn suspend(&mut self)
+        ensures { self.new ≡ with_force None self.old }
+    {
+        self.traffic = None;
+    }
+
+    // The set in force, with the marks of its combinations.
+    pub fn in_force(&self) -> Option<&InForce>
+        ensures { option_map (λ s. s.now) result ≡ standing self.now.force }
+    {
+        self.traffic.as_ref().map(|traffic| traffic.set())
+    }
 }

@@ -2,11 +2,8 @@
 
 #![tactic(auto)]
 
-mod asking;
 pub mod bearer;
 mod choosing;
-mod errors;
 pub mod marks;
-mod receiving;
 pub mod settings;
 mod traffic;

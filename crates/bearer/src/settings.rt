@@ -1,8 +1,8 @@
-// The settings of an end. Their ranges are those of their types: limits are checked when they are made.
+// The settings of an end. Their fields are open, and nothing is left to be kept to: limits carry their ranges, and are checked when they are made.
 use exchange::limits::Limits;
 
 // How user frames are numbered, modulo 16, from the moment when a set comes into force.
-#[derive(Clone, Copy)]
+#[derive(Clone, Copy, PartialEq, Eq, Debug)]
 pub enum Numbering {
     // by the ticks since then
     Timed,

@@ -1,56 +1,42 @@
-// User data sent, and its numbering.
-ghost use Rattle.std.specs.Prelude.{◌≡◌, ◌≤◌, cond, Ok};
-ghost use Rattle.frames.specs.Frame.{octets_of};
-ghost use Rattle.frames.specs.declared.data_type.DataType.TheVariants.{Checked, Plain};
-ghost use Rattle.frames.specs.Joined.{held};
-ghost use Rattle.sets.specs.Closing.{Contents, contents};
-ghost use Rattle.reports.specs.Said.{said};
-ghost use Rattle.reports.specs.Effects.{Answered};
-ghost use Rattle.bearer.specs.Bearing.{bearing, force_of, in_force};
-ghost use Rattle.bearer.specs.Traffics.{type_of, after_frame, after_tick, tick_passed, frame_for, passes, data_sent};
+// The set in force and the numbers of its user data.
+ghost use Rattle.std.specs.Prelude.{◌≡◌};
+ghost use Rattle.bearer.specs.Bearing.{in_force};
+ghost use Rattle.bearer.specs.Traffics.{numbered, frame_for};
 
-use crate::bearer::{Bearer, Traffic};
+mod receiving;
+
 use crate::settings::Numbering;
 use building::user_data::build_user_data;
-use frames::data_type::DataType;
+use frames::frame::DataHeader;
 use frames::octets::Octets;
 use frames::refusal::Refusal;
-use lines::line::Line;
-use reports::report::Report;
-use reports::sending::send;
 use set_in_force::in_force::InForce;
 use sets::closed::Set;
+use std::marker::Model;
 
-impl Numbering {
-    // The number of the next frame, after one was sent.
-    fn after_frame(self, number: u8) -> u8
-        requires { number ≤ 15 }
-        ensures is { result ≡ after_frame self number }
-        ensures low { result ≤ 15 }
-    {
-        match self {
-            Numbering::Counted => (number + 1) % 16,
-            Numbering::Timed => number,
-        }
-    }
+// The set in force, the number of the next frame to send, and the number that is expected next.
+#[derive(Drop)]
+pub(crate) struct Traffic {
+    set: InForce,
+    sending: u8,
+    expected: u8,
+}
 
-    // The number of the next frame, after a tick.
-    fn after_tick(self, number: u8) -> u8
-        requires { number ≤ 15 }
-        ensures is { result ≡ after_tick self number }
-        ensures low { result ≤ 15 }
-    {
-        match self {
-            Numbering::Counted => number,
-            Numbering::Timed => (number + 1) % 16,
-        }
-    }
+impl Model for Traffic {
+    ghost use Rattle.std.specs.Prelude.{◌≤◌};
+    ghost use Rattle.bearer.specs.Bearing.{Force};
+
+    ghost Value = { Force };
+
+    ghost view = { λ t. record { set = t.set; sending = t.sending; expected = t.expected } };
+
+    ghost invariant = { λ t. (t.sending ≤ 15) × (t.expected ≤ 15) };
 }
 
 impl Traffic {
-    // A set comes into force.
-    pub fn of_set(set: Set) -> Traffic
-        ensures { force_of result ≡ in_force (contents set.table) }
+    // A set comes into force: both numbers begin at 0.
+    pub(crate) fn of_set(set: Set) -> Traffic
+        ensures { result ≡ in_force set }
     {
         Traffic {
             set: InForce::from_set(set),
@@ -59,95 +45,36 @@ impl Traffic {
         }
     }
 
-    fn data_type(&self) -> DataType
-        ensures { result ≡ type_of (contents self.now.set.table) }
+    pub(crate) fn set(&self) -> &InForce
+        ensures { result.now ≡ self.now.set }
     {
-        if self.set.table.opening.data_type == 0 {
-            DataType::Checked
-        } else {
-            DataType::Plain
-        }
+        &self.set
     }
 
     // The next frame, with user data of a combination.
-    fn frame(&self, rfci: u8, fqc: u8, payload: &[u8]) -> Result<Octets, Refusal>
-        ensures { held result ≡ frame_for rfci fqc payload.now (force_of self.now) }
+    pub(crate) fn frame(&self, rfci: u8, fqc: u8, payload: &[u8]) -> Result<Octets, Refusal>
+        ensures { result ≡ frame_for rfci fqc payload.now self.now }
     {
         match self.set.look_up(rfci) {
-            Some(found) => {
-                if !found.allowed {
-                    return Err(Refusal::RfciBarred);
-                }
-                build_user_data(
-                    self.data_type(),
-                    self.sending,
+            Some(found) if found.allowed => {
+                let header = DataHeader {
+                    data_type: self.set.opening().data_type(),
+                    number: self.sending,
                     fqc,
                     rfci,
-                    found.bits as usize,
-                    payload,
-                )
+                };
+                build_user_data(header, found.bits as usize, payload)
             }
-            None => Err(Refusal::RfciBarred),
-        }
-    }
-}
-
-impl Bearer {
-    // A tick, as user data is numbered.
-    pub fn tick(&mut self)
-        ensures { bearing self.new ≡ tick_passed (bearing self.old) }
-    {
-        let Some(traffic) = self.traffic else {
-            return;
-        };
-        self.traffic = Some(Traffic {
-            set: traffic.set,
-            sending: self.settings.numbering.after_tick(traffic.sending),
-            expected: traffic.expected,
-        });
-    }
-
-    // Sends user data of a combination.
-    pub fn send_data<L: Line>(
-        &mut self,
-        rfci: u8,
-        fqc: u8,
-        payload: &[u8],
-        line: &mut L,
-        report: &mut Report,
-    ) -> Result<(), Refusal>
-        ensures { Answered L.Line.waiting (data_sent (L.Line.takes line.old) rfci fqc payload.now (bearing self.old)) (bearing self.new) line.old line.new (said report.new) result }
-    {
-        report.clear();
-        let Some(traffic) = self.traffic else {
-            return Err(Refusal::WrongPhase);
-        };
-        match traffic.frame(rfci, fqc, payload) {
-            Ok(frame) => self.pass(traffic, frame, line, report),
-            Err(refusal) => Err(refusal),
+            _ => Err(Refusal::RfciBarred),
         }
     }
 
-    // Hands over the next frame.
-    fn pass<L: Line>(
-        &mut self,
-        traffic: Traffic,
-        frame: Octets,
-        line: &mut L,
-        report: &mut Report,
-    ) -> Result<(), Refusal>
-        ensures { Answered L.Line.waiting (passes (L.Line.takes line.old) (bearing self.old) (force_of traffic) (Ok (octets_of frame))) (bearing self.new) line.old line.new (said report.new) result }
+    // A tick or a frame has passed: where numbers go on by it, the next frame has the next one, modulo 16.
+    pub(crate) fn number_on(&mut self, numbering: Numbering, by: Numbering)
+        ensures { self.new ≡ numbered numbering by self.old }
     {
-        report.clear();
-        if !line.takes_length(frame.as_slice().len()) {
-            return Err(Refusal::LineDeclines);
+        if numbering == by {
+            self.sending = (self.sending + 1) % 16;
         }
-        send(line, &frame, report);
-        self.traffic = Some(Traffic {
-            set: traffic.set,
-            sending: self.settings.numbering.after_frame(traffic.sending),
-            expected: traffic.expected,
-        });
-        Ok(())
     }
 }

@@ -2,6 +2,10 @@
 use Rattle.std.specs.Prelude.{ℕ, ◌+◌, ◌*◌, ◌/◌, ◌%◌, List, [], ◌∷◌}
 use Rattle.checksum.specs.Division.{header_sum, payload_sum}
 
+-- two octets, the checksum over them, and one of ten bits over the payload
+abbrev pub header : (first second sum : ℕ) → List ℕ
+header first second sum = first ∷ second ∷ (header_sum first second * 4 + sum / 256) ∷ (sum % 256) ∷ []
+
 -- two octets, the checksum over them and that of the payload, and the payload
 abbrev pub framed : ℕ → ℕ → List ℕ → List ℕ
 framed first second payload =

@@ -1,3 +1,4 @@
 pub mod Building
+pub mod Control
 pub mod UserData
 pub mod Rates

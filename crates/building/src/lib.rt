@@ -3,6 +3,7 @@
 #![tactic(auto)]
 
 pub mod answer;
+mod control;
 mod layout;
 mod padding;
 pub mod question;

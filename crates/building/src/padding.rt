@@ -1,6 +1,6 @@
 // Padding: the bits after the last one of the payload are sent as 0.
 ghost use Rattle.std.specs.Prelude.{◌≡◌, ◌/◌, ◌%◌, ◌<◌, length};
-ghost use Rattle.frames.specs.Joined.{held, fitting};
+ghost use Rattle.frames.specs.Joined.{fitting};
 ghost use Rattle.frames.specs.Extent.{octets_for};
 ghost use Rattle.building.specs.UserData.{high_bits, padded};
 
@@ -18,12 +18,13 @@ fn high_bits(count: u32, octet: u8) -> u8
 // The payload with its padding cleared.
 pub(crate) fn pad(bits: usize, payload: &[u8]) -> Result<Octets, Refusal>
     requires { length payload.now ≡ octets_for bits }
-    ensures { held result ≡ fitting (padded bits payload.now) }
+    ensures { result ≡ fitting (padded bits payload.now) }
 {
-    if bits % 8 == 0 {
-        return Octets::of_parts(payload, &[]);
+    let over = bits % 8;
+    match payload {
+        [whole @ .., last] if over != 0 => {
+            Octets::of_parts(whole, &[high_bits(over as u32, *last)])
+        }
+        _ => Octets::of_parts(payload, &[]),
     }
-    let whole = bits / 8;
-    let last = high_bits((bits % 8) as u32, payload[whole]);
-    Octets::of_parts(&payload[0..whole], &[last])
 }

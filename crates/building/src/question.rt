@@ -1,14 +1,14 @@
 // A question of a control procedure.
 ghost use Rattle.std.specs.Prelude.{◌≡◌};
 ghost use Rattle.frames.specs.Distances.{distance_code};
-ghost use Rattle.frames.specs.Frame.{octets_of};
-ghost use Rattle.frames.specs.Joined.{held, fitting};
+ghost use Rattle.frames.specs.Joined.{fitting};
 ghost use Rattle.frames.specs.Procedures.{code_of};
 ghost use Rattle.frames.specs.Values.{octet_of};
 ghost use Rattle.building.specs.Building.{question_frame, alignment_frame, error_frame};
 
-use crate::layout::{certain, checked};
+use crate::control::{control, short_control};
 use frames::cause::Cause;
+use frames::control_kind::ControlKind;
 use frames::distance::Distance;
 use frames::number::Number;
 use frames::octets::Octets;
@@ -22,27 +22,29 @@ pub fn build_question(
     number: Number,
     payload: &[u8],
 ) -> Result<Octets, Refusal>
-    ensures { held result ≡ fitting (question_frame (code_of procedure) number.value payload.now) }
+    ensures { result ≡ fitting (question_frame (code_of procedure) number.value payload.now) }
 {
-    checked(0xE0 + number.value, procedure.code(), payload)
+    control(ControlKind::Question, procedure, number, payload)
 }
 
 pub fn build_alignment(number: Number, shift: Shift) -> Octets
-    ensures { octets_of result ≡ alignment_frame number.value (octet_of shift) }
+    ensures { result ≡ alignment_frame number.value (octet_of shift) }
 {
-    certain(
-        0xE0 + number.value,
-        Procedure::TimeAlignment.code(),
+    short_control(
+        ControlKind::Question,
+        Procedure::TimeAlignment,
+        number,
         &[shift.octet()],
     )
 }
 
 pub fn build_error_event(number: Number, distance: Distance, cause: Cause) -> Octets
-    ensures { octets_of result ≡ error_frame number.value (distance_code distance) cause.value }
+    ensures { result ≡ error_frame number.value (distance_code distance) cause.value }
 {
-    certain(
-        0xE0 + number.value,
-        Procedure::ErrorEvent.code(),
+    short_control(
+        ControlKind::Question,
+        Procedure::ErrorEvent,
+        number,
         &[(distance.code() << 6) + cause.value],
     )
 }

@@ -1,62 +1,58 @@
 // A rate question: how many marks follow, and the marks.
-ghost use Rattle.std.specs.Prelude.{◌≡◌, ◌+◌, ◌*◌, ◌<◌, ◌≤◌, length, take};
-ghost use Rattle.frames.specs.Frame.{octets_of};
-ghost use Rattle.frames.specs.Values.{marks_of};
-ghost use Rattle.building.specs.Rates.{mark, mark_octet, rate_payload, rate_frame};
+ghost use Rattle.std.specs.Prelude.{◌≡◌, ◌+◌, ◌*◌, ◌<◌, ◌≤◌, length, take, drop};
+ghost use Rattle.frames.specs.Extent.{octets_for};
+ghost use Rattle.building.specs.Rates.{mark, mark_octet, mark_octets, rate_payload, rate_frame};
 
-use crate::layout::certain;
+use crate::control::short_control;
+use frames::control_kind::ControlKind;
 use frames::extent::octets_for;
-use frames::mask::RateMask;
+use frames::mask::{MOST_MARKS, RateMask};
 use frames::number::Number;
 use frames::octets::Octets;
 use frames::procedure::Procedure;
+use std::array;
 
-// What a mark adds to its octet: nothing where it allows, or past the last one.
-fn worth(bars: &[bool], place: usize, weight: u8) -> u8
-    ensures { result ≡ mark bars.now place * weight }
+// 1 where a mark bars; 0 where it allows, and past the last one.
+fn mark(bars: &[bool], place: usize) -> u8
+    ensures { result ≡ mark bars.now place }
 {
-    if place < bars.len() && bars[place] {
-        weight
-    } else {
-        0
-    }
+    u8::from(bars.get(place).copied().unwrap_or(false))
 }
 
-fn mark_octet(bars: &[bool]) -> u8
-    ensures { result ≡ mark_octet bars.now }
+// Eight marks from a place on, the first one highest.
+fn mark_octet(bars: &[bool], first: usize) -> u8
+    requires { first ≤ 56 }
+    ensures { result ≡ mark_octet (drop first bars.now) }
 {
-    worth(bars, 0, 128)
-        + worth(bars, 1, 64)
-        + worth(bars, 2, 32)
-        + worth(bars, 3, 16)
-        + worth(bars, 4, 8)
-        + worth(bars, 5, 4)
-        + worth(bars, 6, 2)
-        + worth(bars, 7, 1)
+    (first..first + 8).fold(0u8, |octet, place| (octet << 1) + mark(bars, place))
 }
 
-// The octets of the payload, written into the first octets of `payload`, and how many they are.
-fn rate_payload(bars: &[bool], payload: &mut [u8; 9]) -> usize
-    requires { length bars.now ≤ 63 }
-    ensures written { take result payload.new ≡ rate_payload bars.now }
-    ensures few { result ≤ 9 }
+// The octets that hold the marks, and others behind them.
+fn mark_octets(bars: &[bool]) -> [u8; 8]
+    requires { length bars.now ≤ MOST_MARKS }
+    ensures { take (octets_for (length bars.now)) result ≡ mark_octets (octets_for (length bars.now)) bars.now }
 {
-    let octets = octets_for(bars.len());
-    payload[0] = bars.len() as u8;
-    for k in 0..octets {
-        payload[1 + k] = mark_octet(&bars[8 * k..]);
-    }
-    1 + octets
+    array::from_fn(|k| mark_octet(bars, 8 * k))
+}
+
+// The count of marks, and as many octets as hold them.
+fn rate_payload(bars: &[bool]) -> Octets
+    requires { length bars.now ≤ MOST_MARKS }
+    ensures octets { result ≡ rate_payload bars.now }
+    ensures few { length result ≤ 9 }
+{
+    let count = octets_for(bars.len());
+    Octets::of_parts(&[bars.len() as u8], &mark_octets(bars)[..count]).unwrap()
 }
 
 pub fn build_rate(number: Number, mask: &RateMask) -> Octets
-    ensures { octets_of result ≡ rate_frame number.value (marks_of mask.now) }
+    ensures { result ≡ rate_frame number.value mask.now }
 {
-    let mut payload = [0; 9];
-    let length = rate_payload(mask.marks(), &mut payload);
-    certain(
-        0xE0 + number.value,
-        Procedure::RateControl.code(),
-        &payload[0..length],
+    let payload = rate_payload(mask.marks());
+    short_control(
+        ControlKind::Question,
+        Procedure::RateControl,
+        number,
+        payload.as_slice(),
     )
 }

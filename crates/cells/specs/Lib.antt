@@ -1,5 +1,2 @@
-pub mod Bounds
 pub mod Counts
-pub mod Held
-pub mod Waiting
-pub mod Moves
+pub mod Standing

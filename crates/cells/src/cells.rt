@@ -1,15 +1,5 @@
-// Equal cells, of which as many are used as were asked for.
-ghost use Rattle.std.specs.Prelude.{◌<◌, ◌≤◌};
-ghost use Rattle.cells.specs.Bounds.{most};
-ghost use Rattle.cells.specs.Held.{AllFilled};
+// Equal cells are a line: a frame waits in a cell of its own, and none is moved from cell to cell.
+use crate::store::CellStore;
+use lines::queue::Queue;
 
-use crate::store::Store;
-
-#[derive(Drop)]
-pub struct Cells {
-    pub(crate) store: Store,
-    ghost few: { store.size ≤ most },
-    ghost begun: { store.head < store.size },
-    ghost within: { store.used ≤ store.size },
-    ghost filled: { AllFilled store },
-}
+pub type Cells = Queue<CellStore>;

@@ -1,10 +1,17 @@
 // How many cells a line has: 1 to 32.
-ghost use Rattle.std.specs.Prelude.{◌≤◌};
-ghost use Rattle.cells.specs.Bounds.{most};
+ghost use Rattle.std.specs.Prelude.{◌≡◌};
+ghost use Rattle.cells.specs.Counts.{count_in};
 
-#[derive(Clone, Copy)]
-pub struct CellCount {
-    pub(crate) count: usize,
-    ghost some: { 1 ≤ count },
-    ghost few: { count ≤ most },
+use frames::refusal::Refusal;
+use lines::size::Size;
+
+// The most cells that a line can have.
+pub const MOST: usize = 32;
+
+pub type CellCount = Size<1, MOST>;
+
+pub fn cell_count(count: usize) -> Result<CellCount, Refusal>
+    ensures { result ≡ count_in count }
+{
+    CellCount::new(count)
 }

@@ -2,9 +2,7 @@
 
 #![tactic(auto)]
 
+mod cell;
 pub mod cells;
 pub mod count;
-mod counting;
-mod making;
-pub mod queue;
-mod store;
+pub mod store;

@@ -3,13 +3,13 @@
 
 #![tactic(auto)]
 
-use bearer::settings::{Numbering, Settings};
+use bearer::settings::{Numbering, Settings, Timing};
 use building::answer::build_ack;
 use building::user_data::build_user_data;
 use cells::cells::Cells;
 use cells::count::CellCount;
-use exchange::limits::Limits;
 use frames::data_type::DataType;
+use frames::frame::DataHeader;
 use frames::number::Number;
 use frames::octets::Octets;
 use frames::procedure::Procedure;
@@ -25,6 +25,7 @@ use sets::opening::Opening;
 use std::io;
 use std::io::Read;
 use std::time::Instant;
+use timing::count_in;
 
 // One case: how many combinations the set has, of how many bits each, and the user data.
 #[derive(Drop)]
@@ -36,10 +37,8 @@ struct Case<'a> {
 
 // A set of combinations of one size, RFCI 0 on.
 fn set_of(combinations: u8, bits: u16) -> Option<Set> {
-    let Ok(opening) = Opening::new(1, false, 0) else {
-        return None;
-    };
-    let mut draft = Draft::open(opening);
+    let mut draft = Draft::open(Opening::new(1, false, 0).ok()?);
+    // RFCIs are counted: nothing is indexed
     for rfci in 0..combinations {
         let _ = draft.add(rfci, 0, &[bits]);
     }
@@ -49,23 +48,18 @@ fn set_of(combinations: u8, bits: u16) -> Option<Set> {
 }
 
 fn settings() -> Option<Settings> {
-    let Ok(limits) = Limits::new(10, 3) else {
-        return None;
+    let timing = Timing {
+        ticks: 10,
+        repeats: 3,
     };
-    Some(Settings {
-        initialisation: limits,
-        rate: limits,
-        alignment: limits,
-        numbering: Numbering::Timed,
-        keep_damaged: false,
-        mark: 0,
-    })
+    Settings::new(timing, timing, timing, Numbering::Timed, false, 0).ok()
 }
 
 // The set is offered, and each link acknowledged.
 fn bring_into_force<L: Line>(end: &mut RadioEnd<L>, set: Set, report: &mut Report) {
     let _ = end.start(set, report);
     let mut number = Number::first();
+    // as often as a set can have links: nothing is indexed
     for _ in 0..4u8 {
         let ack = build_ack(Procedure::Initialisation, number);
         let _ = end.receive(ack.as_slice(), report);
@@ -78,14 +72,10 @@ fn receive_often<L: Line>(
     octets: &[u8],
     times: u32,
     report: &mut Report,
-) -> u32 {
-    let mut delivered = 0;
-    for k in 0..times {
-        if let Ok(Received::Delivered) = end.receive(octets, report) {
-            delivered += 1;
-        }
-    }
-    delivered
+) -> usize {
+    (0..times)
+        .filter(|_| matches!(end.receive(octets, report), Ok(Received::Delivered)))
+        .count()
 }
 
 fn measure_frame<L: Line + Drop>(
@@ -123,14 +113,13 @@ fn measure<L: Line + Drop>(
     };
     // the last combination of the set, which is found last
     let rfci = case.combinations.saturating_sub(1);
-    match build_user_data(
-        DataType::Checked,
-        0,
-        0,
+    let header = DataHeader {
+        data_type: DataType::Checked,
+        number: 0,
+        fqc: 0,
         rfci,
-        case.bits as usize,
-        case.payload,
-    ) {
+    };
+    match build_user_data(header, case.bits as usize, case.payload) {
         Ok(frame) => measure_frame(rt, name, line, set, &frame, times),
         Err(_) => println!(rt; "{name}: not built"),
     }
@@ -149,50 +138,25 @@ fn measure_both(rt: &HostRuntime, case: &Case<'_>, times: u32) -> io::Result<()>
 }
 
 fn measure_sizes(rt: &HostRuntime, combinations: u8, times: u32) -> io::Result<()> {
-    measure_both(
-        rt,
-        &Case {
-            combinations,
-            bits: 40,
-            payload: &[0x55; 5],
-        },
-        times,
-    )?;
-    measure_both(
-        rt,
-        &Case {
-            combinations,
-            bits: 320,
-            payload: &[0x55; 40],
-        },
-        times,
-    )?;
-    measure_both(
-        rt,
-        &Case {
-            combinations,
-            bits: 4000,
-            payload: &[0x55; 500],
-        },
-        times,
-    )
-}
-
-// The decimal number of the input's first line, of at most eight digits.
-fn count_in(input: &[u8]) -> u32 {
-    let mut count: u32 = 0;
-    for byte in input {
-        if *byte >= b'0' && *byte <= b'9' && count < 10_000_000 {
-            count = count * 10 + (*byte - b'0') as u32;
-        }
+    let sizes: [(u16, &[u8]); 3] = [(40, &[0x55; 5]), (320, &[0x55; 40]), (4000, &[0x55; 500])];
+    for (bits, payload) in sizes {
+        measure_both(
+            rt,
+            &Case {
+                combinations,
+                bits,
+                payload,
+            },
+            times,
+        )?;
     }
-    count
+    Ok(())
 }
 
 fn main(rt: HostRuntime) -> io::Result<()> {
     let mut input = [0; 64];
     let count = rt.stdin().read(&mut input)?;
-    let times = count_in(&input[0..count]);
+    let times = count_in(&input[..count]);
     measure_sizes(&rt, 1, times)?;
     measure_sizes(&rt, 32, times)
 }

@@ -1,7 +1,29 @@
 -- One exchange of any kind, and its books.
-use Rattle.std.proofs.Common.{◌≡◌, ℕ, ◌+◌, ◌*◌, ◌<◌, ◌≤◌, cond, eqb, List, [], ◌∷◌, ◌++◌, Some, None, Option, sym, refl, ap, ◌∙◌, subst, mul-le-mul_right, add-mul, one-mul, arith, eq-eqb, ne_eqb}
-use Rattle.exchange.specs.Asking.{Watch, begun, repeated, less}
+use Rattle.std.proofs.Common.{◌≡◌, ℕ, ◌+◌, ◌-◌, ◌*◌, ◌<◌, ◌≤◌, cond, eqb, List, [], ◌∷◌, ◌++◌, Some, None, Option, sym, refl, ap, ◌∙◌, subst, mul-le-mul_right, add-mul, one-mul, arith, eq-eqb, ne_eqb}
+use Rattle.exchange.specs.declared.exchange.Exchange.{Exchange}
 use Rattle.exchange.specs.Books.{Mark, opened, announced, closed, asked, waited, Books, count, blank, waits_on, wait_on, enter, entered, Kept}
+
+-- an exchange without its question: the ticks that are left, how often the present frame was repeated, and its number
+pub record Watch : Type 0 where
+  pub ticks : ℕ
+  pub repeats : ℕ
+  pub number : ℕ
+
+abbrev pub watch : {Q : Type 0} → Exchange Q → Watch
+watch e = record { ticks = e.ticks; repeats = e.repeats; number = e.number }
+
+abbrev pub watched : {Q : Type 0} → Option (Exchange Q) → Option Watch
+watched None = None
+watched (Some e) = Some (watch e)
+
+abbrev pub fresh : ℕ → ℕ → Watch
+fresh t number = record { ticks = t; repeats = 0; number = number }
+
+abbrev pub repeated : ℕ → Watch → Watch
+repeated t a = record { ticks = t; repeats = a.repeats + 1; number = a.number }
+
+abbrev pub less : Watch → Watch
+less a = record { ticks = a.ticks - 1; repeats = a.repeats; number = a.number }
 
 room : (r n t : ℕ) → r ≤ n → (r + 1) * t ≤ (1 + n) * t
 room r n t h = let k : r + 1 ≤ 1 + n = omega arith in mul-le-mul_right t k
@@ -109,7 +131,7 @@ module _ (t n : ℕ) where
         };
       }
 
-  onward : (a : Watch) (b : Books) → Running a b → Running (begun t (a.number + 1)) (enter (asked (a.number + 1)) b)
+  onward : (a : Watch) (b : Books) → Running a b → Running (fresh t (a.number + 1)) (enter (asked (a.number + 1)) b)
   onward a b h =
       let k = h.kept.balanced in
       let w = h.kept.bounded in
@@ -158,7 +180,7 @@ module _ (t n : ℕ) where
     lapses : {a : Watch} → a.repeats < n → Move (Some a) (waited ∷ asked a.number ∷ []) (Some (repeated t a))
     expires : {a : Watch} → Move (Some a) (waited ∷ closed ∷ []) None
     repeats : {a : Watch} → a.repeats < n → Move (Some a) (asked a.number ∷ []) (Some (repeated t a))
-    advances : {a : Watch} → Move (Some a) (asked (a.number + 1) ∷ []) (Some (begun t (a.number + 1)))
+    advances : {a : Watch} → Move (Some a) (asked (a.number + 1) ∷ []) (Some (fresh t (a.number + 1)))
     closes : {a : Watch} → Move (Some a) (closed ∷ []) None
 
   pub moved : {o o' : Option Watch} {ms : List Mark} (b : Books) → 1 ≤ t → Move o ms o' → Booked o b → Booked o' (entered ms b)

@@ -4,7 +4,8 @@ use Rattle.reports.specs.declared.ending.Kind.{Kind}
 use Rattle.reports.specs.declared.ending.Kind.TheVariants.{Initialisation, RateControl, TimeAlignment, HostQuestion}
 use Rattle.reports.specs.declared.ending.Ending.{Ending}
 use Rattle.reports.specs.declared.ending.Ending.TheVariants.{Done, Overtaken, Accepted, NoAnswer, Rejected, RateFailure, AlignmentNotSupported, AlignmentNotPossible, AlignmentFailure}
-use Rattle.reports.specs.Said.{Happening, began, over, delivered, handed, refused}
+use Rattle.reports.specs.declared.happening.Happening.{Happening}
+use Rattle.reports.specs.declared.happening.Happening.TheVariants.{Started, Ended, Delivered, HandedOver, Refused}
 
 -- what the books of one kind take note of
 pub data Mark : Type 0 where
@@ -37,11 +38,11 @@ question k (h ∷ p ∷ rest) = cond (h / 4 == 56 && p % 16 == procedure_of k) (
 
 -- what an entry of a report says of kind k
 abbrev pub notes : Kind → Happening → List Mark
-notes k (began j) = cond (same j k) (announced ∷ []) []
-notes k (over j c) = cond (same j k) (closed ∷ []) []
-notes k (delivered d) = []
-notes k (handed f) = question k f
-notes k (refused f) = question k f
+notes k (Started j) = cond (same j k) (announced ∷ []) []
+notes k (Ended j c) = cond (same j k) (closed ∷ []) []
+notes k (Delivered d) = []
+notes k (HandedOver f) = question k f
+notes k (Refused f) = question k f
 
 abbrev pub named : Kind → List Happening → List Mark
 named k [] = []
@@ -62,11 +63,11 @@ completes AlignmentFailure = false
 -- whether kind k is named as done
 abbrev pub done_in : Kind → List Happening → Bool
 done_in k [] = false
-done_in k (began j ∷ hs) = done_in k hs
-done_in k (over j c ∷ hs) = (same j k && completes c) || done_in k hs
-done_in k (delivered d ∷ hs) = done_in k hs
-done_in k (handed f ∷ hs) = done_in k hs
-done_in k (refused f ∷ hs) = done_in k hs
+done_in k (Started j ∷ hs) = done_in k hs
+done_in k (Ended j c ∷ hs) = (same j k && completes c) || done_in k hs
+done_in k (Delivered d ∷ hs) = done_in k hs
+done_in k (HandedOver f ∷ hs) = done_in k hs
+done_in k (Refused f ∷ hs) = done_in k hs
 
 pub record Books : Type 0 where
   pub started : ℕ
@@ -99,71 +100,20 @@ waits_on m (Some x) w = cond (m == x) w 0
 -- a tick counts for the number that is waited on, and for nothing before the first sending
 abbrev pub wait_on : Option ℕ → Books → Books
 wait_on None b = b
-wait_on (Some x) b =
-    record {
-      started = b.started;
-      announcements = b.announcements;
-      ended = b.ended;
-      running = b.running;
-      sent = b.sent;
-      number = b.number;
-      waits = b.waits + 1;
-      most = b.most;
-      longest = max b.longest (b.waits + 1);
-      faults = b.faults;
-    }
+wait_on (Some x) b = record b { waits = b.waits + 1; longest = max b.longest (b.waits + 1) }
 
 abbrev pub enter : Mark → Books → Books
 enter opened b =
-    record {
-      started = b.started + 1;
-      announcements = b.announcements;
-      ended = b.ended;
-      running = b.running + 1;
-      sent = [];
-      number = None;
-      waits = 0;
-      most = b.most;
-      longest = b.longest;
-      faults = b.faults + cond (b.running == 0) 0 1;
-    }
-enter announced b =
-    record {
-      started = b.started;
-      announcements = b.announcements + 1;
-      ended = b.ended;
-      running = b.running;
-      sent = b.sent;
-      number = b.number;
-      waits = b.waits;
-      most = b.most;
-      longest = b.longest;
-      faults = b.faults;
-    }
+    record b { started = b.started + 1; running = b.running + 1; sent = []; number = None; waits = 0; faults = b.faults + cond (b.running == 0) 0 1 }
+enter announced b = record b { announcements = b.announcements + 1 }
 enter closed b =
-    record {
-      started = b.started;
-      announcements = b.announcements;
-      ended = b.ended + 1;
-      running = b.running - 1;
-      sent = b.sent;
-      number = None;
-      waits = 0;
-      most = b.most;
-      longest = b.longest;
-      faults = b.faults + cond (b.running == 0) 1 0;
-    }
+    record b { ended = b.ended + 1; running = b.running - 1; number = None; waits = 0; faults = b.faults + cond (b.running == 0) 1 0 }
 enter (asked m) b =
-    record {
-      started = b.started;
-      announcements = b.announcements;
-      ended = b.ended;
-      running = b.running;
+    record b {
       sent = m ∷ b.sent;
       number = Some m;
       waits = waits_on m b.number b.waits;
       most = max b.most (count m (m ∷ b.sent));
-      longest = b.longest;
       faults = b.faults + cond (b.running == 0) 1 0;
     }
 enter waited b = wait_on b.number b

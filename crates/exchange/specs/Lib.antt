@@ -1,5 +1,7 @@
 pub mod Limiting
 pub mod Books
+pub mod Asked
+pub mod Answers
 pub mod Asking
-pub mod Came
+pub mod Slots
 pub mod Course

@@ -1,35 +1,48 @@
-// An exchange and what comes of it: plain values.
-use frames::refusal::Refusal;
-use reports::ending::Ending;
+// A question that waits for its answer.
+ghost use Rattle.std.specs.Prelude.{◌≡◌, length};
+ghost use Rattle.exchange.specs.Asking.{begun};
+ghost use Rattle.exchange.specs.Course.{CoursesHold};
 
-// A question that waits for its answer: the ticks that are left, and how often the present frame was repeated.
-#[derive(Clone, Copy)]
+use crate::inquiry::Inquiry;
+use crate::limits::Limits;
+use frames::number::Number;
+use lines::line::Line;
+
+// The ticks that are left, and how often the present frame was repeated.
+// The number of the present frame is plain: a `Number` goes round after 3, and an exchange counts on until its kind has no next frame.
+#[derive(Drop)]
 pub struct Exchange<Q> {
-    pub question: Q,
-    pub ticks: u16,
-    pub repeats: u8,
-    pub number: u8,
+    pub(crate) question: Q,
+    pub(crate) ticks: u16,
+    pub(crate) repeats: u8,
+    pub(crate) number: u8,
 }
 
-// An answer as it was read: erroneous where its payload is against a rule.
-#[derive(Clone, Copy)]
-pub enum Reply {
-    Ack,
-    Nack(u8),
-    Erroneous(Refusal),
-}
+impl<Q: Inquiry> Exchange<Q> {
+    // A question that is about to be asked. Whatever ticks and answers follow, and whatever the line takes,
+    // no number is sent more than 1 + N times, or waited on for more than (1 + N) × T ticks.
+    pub fn first(question: Q, number: Number, limits: Limits) -> Exchange<Q>
+        ensures begun { result ≡ begun question number.value limits }
+        ensures courses { CoursesHold Q.frames Q.KIND Q.follows Q.UNANSWERED Q.DECLINED Q.turns limits result }
+    {
+        Exchange {
+            question,
+            ticks: limits.ticks,
+            repeats: 0,
+            number: number.value,
+        }
+    }
 
-// What an answer makes of an exchange.
-#[derive(Clone, Copy)]
-pub enum Turn {
-    Onward,
-    Again,
-    Stop(Ending),
-}
+    pub fn question(&self) -> &Q
+        ensures { result.now ≡ self.now.question }
+    {
+        &self.question
+    }
 
-// The exchange after an answer, none where it ended, and how the call that brought the answer comes out.
-#[derive(Clone, Copy)]
-pub struct Heard<Q> {
-    pub next: Option<Exchange<Q>>,
-    pub answer: Result<(), Refusal>,
+    // Whether the line takes the present frame now.
+    pub fn is_taken<L: Line>(&self, line: &L) -> bool
+        ensures { result ≡ L.takes line.now (length (Q.frames self.now.question self.now.number)) }
+    {
+        line.takes_length(self.question.frame(self.number).as_slice().len())
+    }
 }

@@ -2,10 +2,10 @@
 
 #![tactic(auto)]
 
-mod begin;
+pub mod answer;
 mod bounding;
 pub mod exchange;
 pub mod inquiry;
 pub mod limits;
+pub mod slots;
 mod steps;
-mod verdicts;

@@ -1,4 +1,5 @@
 // How many ticks an answer is waited for, and how often a question is repeated.
+// The fields are public: a literal is checked where it stands, and whoever holds limits knows their ranges, as the law of whole runs has to.
 ghost use Rattle.std.specs.Prelude.{◌≤◌};
 
 #[derive(Clone, Copy)]

@@ -1,21 +1,31 @@
-// The steps of an exchange.
-ghost use Rattle.std.specs.Prelude.{◌≡◌, Some};
-ghost use Rattle.exchange.specs.Asking.{watch, sent, again, ticked, turned, heard};
-ghost use Rattle.exchange.specs.Came.{Came};
+// The steps of an exchange, in place: each tells whether it goes on. That is a `bool`, since an end is no refusal:
+// the call that brought it succeeds, and the report names how the exchange ended.
+ghost use Rattle.reports.specs.Effects.{Did};
+ghost use Rattle.exchange.specs.Asking.{announced, sent, kept, again, ticked, turned};
+ghost use Rattle.exchange.specs.declared.answer.Turn.TheVariants.{Onward};
 
-use crate::exchange::{Exchange, Heard, Reply, Turn};
+use crate::answer::Turn;
+use crate::exchange::Exchange;
 use crate::inquiry::Inquiry;
 use crate::limits::Limits;
-use frames::refusal::Refusal;
 use lines::line::Line;
 use reports::ending::Ending;
-use reports::report::{Entry, Report};
+use reports::happening::Happening;
+use reports::report::Report;
 use reports::sending::send;
 
 impl<Q: Inquiry> Exchange<Q> {
+    // Names its start, and sends the first frame.
+    pub fn start<L: Line>(&self, line: &mut L, report: &mut Report)
+        ensures { Did L.waiting (announced Q.frames Q.KIND (L.takes line.old) self.now) result result line.old line.new report.old report.new }
+    {
+        report.note(Happening::Started(Q::KIND));
+        self.ask(line, report);
+    }
+
     // Sends the present frame.
-    pub fn ask<L: Line>(&self, line: &mut L, report: &mut Report)
-        ensures { Came L.Line.waiting (sent (Q.Inquiry.form self.now.question) (L.Line.takes line.old) (watch self.now)) self.now.question (Some self.now) line.old line.new report.old report.new }
+    fn ask<L: Line>(&self, line: &mut L, report: &mut Report)
+        ensures { Did L.waiting (sent Q.frames (L.takes line.old) self.now) result result line.old line.new report.old report.new }
     {
         let frame = self.question.frame(self.number);
         send(line, &frame, report);
@@ -23,113 +33,72 @@ impl<Q: Inquiry> Exchange<Q> {
 
     // Sends the present frame again, or ends.
     fn repeat<L: Line>(
-        self,
+        &mut self,
         limits: Limits,
         ending: Ending,
         line: &mut L,
         report: &mut Report,
-    ) -> Option<Exchange<Q>>
-        ensures { Came L.Line.waiting (again (Q.Inquiry.form self.question) (L.Line.takes line.old) limits.ticks limits.repeats ending (watch self)) self.question result line.old line.new report.old report.new }
+    ) -> bool
+        ensures { Did L.waiting (again Q.frames Q.KIND (L.takes line.old) limits ending self.old) (kept result self.new) tt line.old line.new report.old report.new }
     {
         if self.repeats < limits.repeats {
-            let repeated = Exchange {
-                question: self.question,
-                ticks: limits.ticks,
-                repeats: self.repeats + 1,
-                number: self.number,
-            };
-            repeated.ask(line, report);
-            return Some(repeated);
+            self.ticks = limits.ticks;
+            self.repeats += 1;
+            self.ask(line, report);
+            return true;
         }
-        report.note(Entry::Ended(self.question.kind(), ending));
-        None
+        report.note(Happening::Ended(Q::KIND, ending));
+        false
     }
 
     // One tick.
-    pub fn tick<L: Line>(
-        self,
+    pub(crate) fn tick<L: Line>(
+        &mut self,
         limits: Limits,
         line: &mut L,
         report: &mut Report,
-    ) -> Option<Exchange<Q>>
-        ensures { Came L.Line.waiting (ticked (Q.Inquiry.form self.question) (L.Line.takes line.old) limits.ticks limits.repeats (watch self)) self.question result line.old line.new report.old report.new }
+    ) -> bool
+        ensures { Did L.waiting (ticked Q.frames Q.KIND (L.takes line.old) limits Q.UNANSWERED self.old) (kept result self.new) tt line.old line.new report.old report.new }
     {
         if self.ticks > 1 {
-            return Some(Exchange {
-                question: self.question,
-                ticks: self.ticks - 1,
-                repeats: self.repeats,
-                number: self.number,
-            });
+            self.ticks -= 1;
+            return true;
         }
-        self.repeat(limits, self.question.failure(true), line, report)
-    }
-
-    // An answer to the present frame.
-    fn answer<L: Line>(
-        self,
-        reply: Reply,
-        limits: Limits,
-        line: &mut L,
-        report: &mut Report,
-    ) -> Option<Exchange<Q>>
-        ensures { Came L.Line.waiting (turned (Q.Inquiry.form self.question) (L.Line.takes line.old) limits.ticks limits.repeats ((Q.Inquiry.form self.question).turn reply) (watch self)) self.question result line.old line.new report.old report.new }
-    {
-        match Q::turn(Q::read(reply)) {
-            Turn::Onward => self.go_on(limits, line, report),
-            Turn::Again => self.repeat(limits, self.question.failure(false), line, report),
-            Turn::Stop(ending) => {
-                report.note(Entry::Ended(self.question.kind(), ending));
-                None
-            }
-        }
+        self.repeat(limits, Q::UNANSWERED, line, report)
     }
 
     // The next frame, or the end.
-    fn go_on<L: Line>(
-        self,
-        limits: Limits,
-        line: &mut L,
-        report: &mut Report,
-    ) -> Option<Exchange<Q>>
-        ensures { Came L.Line.waiting (turned (Q.Inquiry.form self.question) (L.Line.takes line.old) limits.ticks limits.repeats Turn.Onward (watch self)) self.question result line.old line.new report.old report.new }
+    fn go_on<L: Line>(&mut self, limits: Limits, line: &mut L, report: &mut Report) -> bool
+        ensures { Did L.waiting (turned Q.frames Q.KIND (L.takes line.old) limits Q.follows Q.DECLINED Onward self.old) (kept result self.new) tt line.old line.new report.old report.new }
     {
         if self.question.more(self.number) {
-            let following = Exchange {
-                question: self.question,
-                ticks: limits.ticks,
-                repeats: 0,
-                number: self.number + 1,
-            };
-            following.ask(line, report);
-            return Some(following);
+            self.ticks = limits.ticks;
+            self.repeats = 0;
+            self.number += 1;
+            self.ask(line, report);
+            return true;
         }
-        report.note(Entry::Ended(self.question.kind(), Ending::Done));
-        None
+        report.note(Happening::Ended(Q::KIND, Ending::Done));
+        false
     }
 
-    // An answer with a number. One with another number than the present frame's changes nothing, not even the ticks.
-    pub fn hear<L: Line>(
-        self,
-        reply: Reply,
-        number: u8,
+    // An answer to the present frame.
+    pub(crate) fn turn<L: Line>(
+        &mut self,
+        turn: Turn,
         limits: Limits,
         line: &mut L,
         report: &mut Report,
-    ) -> Heard<Q>
-        ensures came { Came L.Line.waiting (heard (Q.Inquiry.form self.question) (L.Line.takes line.old) limits.ticks limits.repeats reply number (watch self)).outcome self.question result.next line.old line.new report.old report.new }
-        ensures answer { result.answer ≡ (heard (Q.Inquiry.form self.question) (L.Line.takes line.old) limits.ticks limits.repeats reply number (watch self)).answer }
+    ) -> bool
+        ensures { Did L.waiting (turned Q.frames Q.KIND (L.takes line.old) limits Q.follows Q.DECLINED turn self.old) (kept result self.new) tt line.old line.new report.old report.new }
     {
-        if self.number != number {
-            return Heard {
-                next: Some(self),
-                answer: Err(Refusal::UnexpectedValue),
-            };
-        }
-        let next = self.answer(reply, limits, line, report);
-        Heard {
-            next,
-            answer: reply.verdict(),
+        match turn {
+            Turn::Onward => self.go_on(limits, line, report),
+            Turn::Again => self.repeat(limits, Q::DECLINED, line, report),
+            Turn::Stop(ending) => {
+                report.note(Happening::Ended(Q::KIND, ending));
+                false
+            }
         }
     }
 }

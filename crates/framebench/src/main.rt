@@ -6,7 +6,7 @@
 use building::answer::build_ack;
 use building::user_data::build_user_data;
 use frames::data_type::DataType;
-use frames::frame::Frame;
+use frames::frame::{DataHeader, Frame};
 use frames::number::Number;
 use frames::octets::Octets;
 use frames::procedure::Procedure;
@@ -16,36 +16,19 @@ use payloads::check::check_user_data;
 use std::io;
 use std::io::Read;
 use std::time::Instant;
+use timing::count_in;
 
 // The whole of a frame: header, fields and checksums.
 fn is_accepted(octets: &[u8]) -> bool {
     match read(octets) {
-        Ok(
-            Frame::UserData {
-                checksum,
-                payload,
-                ..
-            },
-        ) => { check_user_data(checksum, payload).is_ok() }
-        Ok(
-            Frame::Ack {
-                version,
-                payload,
-                ..
-            },
-        ) => { read_ack(version, payload).is_ok() }
+        Ok(Frame::UserData(user_data)) => check_user_data(user_data).is_ok(),
+        Ok(Frame::Ack(answer)) => read_ack(answer).is_ok(),
         _ => false,
     }
 }
 
-fn read_often(octets: &[u8], times: u32) -> u32 {
-    let mut accepted = 0;
-    for k in 0..times {
-        if is_accepted(octets) {
-            accepted += 1;
-        }
-    }
-    accepted
+fn read_often(octets: &[u8], times: u32) -> usize {
+    (0..times).filter(|_| is_accepted(octets)).count()
 }
 
 fn measure(rt: &HostRuntime, name: &str, frame: &Octets, times: u32) -> io::Result<()> {
@@ -66,27 +49,22 @@ fn measure_data(
     payload: &[u8],
     times: u32,
 ) -> io::Result<()> {
-    match build_user_data(DataType::Checked, 1, 0, 2, bits, payload) {
+    let header = DataHeader {
+        data_type: DataType::Checked,
+        number: 1,
+        fqc: 0,
+        rfci: 2,
+    };
+    match build_user_data(header, bits, payload) {
         Ok(frame) => measure(rt, name, &frame, times),
         Err(_) => println!(rt; "{name}: not built"),
     }
 }
 
-// The decimal number of the input's first line, of at most eight digits.
-fn count_in(input: &[u8]) -> u32 {
-    let mut count: u32 = 0;
-    for byte in input {
-        if *byte >= b'0' && *byte <= b'9' && count < 10_000_000 {
-            count = count * 10 + (*byte - b'0') as u32;
-        }
-    }
-    count
-}
-
 fn main(rt: HostRuntime) -> io::Result<()> {
     let mut input = [0; 64];
     let count = rt.stdin().read(&mut input)?;
-    let times = count_in(&input[0..count]);
+    let times = count_in(&input[..count]);
     measure_data(&rt, "user data 5", 40, &[0x55; 5], times)?;
     measure_data(&rt, "user data 40", 320, &[0x55; 40], times)?;
     measure_data(&rt, "user data 500", 4000, &[0x55; 500], times)?;

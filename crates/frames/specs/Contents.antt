@@ -23,10 +23,11 @@ pub data Contents : Type 0 where
 
 -- what a frame of the code says
 abbrev pub content : Frame → Contents
-content (UserData t n f i c p x) = user_data t n f i c p x.now
-content (Question n v p c l x) = question n v p c l x.now
-content (Ack n v p l x) = ack n v p l x.now
-content (Nack n v p l x) = nack n v p l x.now
+content (UserData d) =
+    user_data d.header.data_type d.header.number d.header.fqc d.header.rfci d.checksum d.place d.payload.now
+content (Question q) = question q.number q.version q.procedure q.checksum q.place q.payload.now
+content (Ack a) = ack a.number a.version a.procedure a.place a.payload.now
+content (Nack a) = nack a.number a.version a.procedure a.place a.payload.now
 
 -- what the code's answer says
 abbrev pub seen : Result Frame Refusal → Result Contents Refusal

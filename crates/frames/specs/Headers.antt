@@ -1,5 +1,6 @@
 -- What the header of a frame says, or why the frame is refused.
-use Rattle.std.specs.Prelude.{ℕ, ◌-◌, ◌/◌, cond, List, length, Ok, Err, Result, ◌==◌, nat_lt, slice_index}
+use Rattle.std.specs.Prelude.{ℕ, ◌-◌, ◌/◌, cond, List, ◌++◌, codes, length, Ok, Err, Result, ◌==◌, nat_lt, slice_index}
+use Rattle.std.specs.Fmt.{decimal}
 use Rattle.checksum.specs.Division.{header_sum}
 use Rattle.frames.specs.declared.refusal.Refusal.{Refusal}
 use Rattle.frames.specs.declared.refusal.Refusal.TheVariants.{TooLong, TooShort, HeaderChecksum}
@@ -13,6 +14,16 @@ abbrev pub type_number : PduType → ℕ
 type_number CheckedData = 0
 type_number PlainData = 1
 type_number Control = 14
+
+-- the type of a number
+abbrev pub type_in : ℕ → Result PduType Refusal
+type_in n =
+    cond (n == 0) (Ok CheckedData) (cond (n == 1) (Ok PlainData) (cond (n == 14) (Ok Control) (Err NoSuchType)))
+
+-- a header as text: the type, the length of the header and that of the payload
+abbrev pub header_text : Header → List ℕ
+header_text h =
+    decimal (type_number h.pdu_type) ++ (codes " " ++ (decimal h.header_length ++ (codes " " ++ decimal h.payload_length)))
 
 -- a frame of n octets whose header has h: the rest is payload
 abbrev pub divided : PduType → ℕ → ℕ → Result Header Refusal

@@ -4,9 +4,11 @@ pub mod Numbers
 pub mod Procedures
 pub mod Headers
 pub mod Hex
-pub mod Joined
 pub mod Distances
 pub mod Values
+pub mod Joined
 pub mod DataTypes
 pub mod Contents
+pub mod ControlKinds
 pub mod Extent
+pub mod Rows

@@ -6,7 +6,6 @@ use Rattle.frames.specs.declared.cause.Cause.{Cause}
 use Rattle.frames.specs.declared.shift.Direction.{Direction}
 use Rattle.frames.specs.declared.shift.Direction.TheVariants.{Delay, Advance}
 use Rattle.frames.specs.declared.shift.Shift.{Shift}
-use Rattle.frames.specs.declared.mask.RateMask.{RateMask}
 
 abbrev pub as_cause : Result Cause Refusal → Result ℕ Refusal
 as_cause (Ok c) = Ok c.value
@@ -40,14 +39,6 @@ abbrev pub shift_of : ℕ → Result ℕ Refusal
 shift_of octet =
     cond ((nat_le 1 octet && nat_le octet 80) || (nat_le 129 octet && nat_le octet 208)) (Ok octet) (Err ReservedValue)
 
--- the marks from RFCI 0 on; true bars
-abbrev pub marks_of : RateMask → List Bool
-marks_of m = take m.count m.bars
-
-abbrev pub as_marks : Result RateMask Refusal → Result (List Bool) Refusal
-as_marks (Ok m) = Ok (marks_of m)
-as_marks (Err e) = Err e
-
--- six bits count 0 to 63 marks
+-- six bits count 0 to 63 marks; true bars
 abbrev pub marks_in : ℕ → List Bool → Result (List Bool) Refusal
 marks_in count bars = cond (nat_lt 63 count) (Err ValueRange) (Ok (take count bars))

@@ -20,7 +20,7 @@ impl Number {
         }
     }
 
-    // A value over 3 is refused.
+    // A value over 3 is refused. No conversion: the field's own value, checked.
     pub fn new(value: u8) -> Result<Number, Refusal>
         ensures { as_number result ≡ number_in value }
     {

@@ -1,13 +1,15 @@
 // The two types of user data frames.
 ghost use Rattle.std.specs.Prelude.{◌≡◌};
-ghost use Rattle.frames.specs.DataTypes.{data_number};
+ghost use Rattle.frames.specs.DataTypes.{data_number, data_type_in};
 
-#[derive(Clone, Copy)]
+use crate::refusal::Refusal;
+
+#[derive(Clone, Copy, PartialEq, Eq, Debug)]
 pub enum DataType {
     // with a payload checksum
-    Checked,
+    Checked = 0,
     // without one
-    Plain,
+    Plain = 1,
 }
 
 impl DataType {
@@ -15,9 +17,21 @@ impl DataType {
     pub fn number(self) -> u8
         ensures { result ≡ data_number self }
     {
-        match self {
-            DataType::Checked => 0,
-            DataType::Plain => 1,
+        self as u8
+    }
+}
+
+// No other PDU type carries user data.
+impl TryFrom<u8> for DataType {
+    type Error = Refusal;
+
+    fn try_from(number: u8) -> Result<DataType, Refusal>
+        ensures { result ≡ data_type_in number }
+    {
+        match number {
+            0 => Ok(DataType::Checked),
+            1 => Ok(DataType::Plain),
+            _ => Err(Refusal::UnexpectedPduType),
         }
     }
 }

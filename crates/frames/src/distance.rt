@@ -4,29 +4,29 @@ ghost use Rattle.frames.specs.Distances.{distance_code, distance_in};
 
 use crate::refusal::Refusal;
 
-#[derive(Clone, Copy)]
+#[derive(Clone, Copy, PartialEq, Eq, Debug)]
 pub enum Distance {
     // in the reporter's own Iu user plane
-    Here,
+    Here = 0,
     // told once by another
-    Beyond,
+    Beyond = 1,
     // told twice
-    FarBeyond,
+    FarBeyond = 2,
 }
 
 impl Distance {
     pub fn code(self) -> u8
         ensures { result ≡ distance_code self }
     {
-        match self {
-            Distance::Here => 0,
-            Distance::Beyond => 1,
-            Distance::FarBeyond => 2,
-        }
+        self as u8
     }
+}
 
-    // The codes over 2 are reserved.
-    pub fn of_code(code: u8) -> Result<Distance, Refusal>
+// The codes over 2 are reserved. Each enum has its own table of numbers and its own refusal: one reader for all would need both as parameters, and be no plainer.
+impl TryFrom<u8> for Distance {
+    type Error = Refusal;
+
+    fn try_from(code: u8) -> Result<Distance, Refusal>
         ensures { result ≡ distance_in code }
     {
         match code {

@@ -8,9 +8,5 @@ pub fn octets_for(bits: usize) -> usize
     ensures holds { bits ≤ 8 * result }
     ensures least { 8 * result < bits + 8 }
 {
-    if bits % 8 == 0 {
-        bits / 8
-    } else {
-        bits / 8 + 1
-    }
+    bits.div_ceil(8)
 }

@@ -2,38 +2,48 @@
 use crate::data_type::DataType;
 use crate::procedure::Procedure;
 
+// The header fields of user data.
+#[derive(Clone, Copy, PartialEq, Eq, Debug)]
+pub struct DataHeader {
+    pub data_type: DataType,
+    pub number: u8,
+    pub fqc: u8,
+    pub rfci: u8,
+}
+
+#[derive(Clone, Copy)]
+pub struct UserData<'a> {
+    pub header: DataHeader,
+    // the payload's checksum as received; plain data has none
+    pub checksum: Option<u16>,
+    pub place: usize,
+    pub payload: &'a [u8],
+}
+
+#[derive(Clone, Copy)]
+pub struct Question<'a> {
+    pub number: u8,
+    pub version: u8,
+    pub procedure: Procedure,
+    pub checksum: u16,
+    pub place: usize,
+    pub payload: &'a [u8],
+}
+
+// Ack or Nack: the ten bits of its checksum are spare.
+#[derive(Clone, Copy)]
+pub struct Answer<'a> {
+    pub number: u8,
+    pub version: u8,
+    pub procedure: Procedure,
+    pub place: usize,
+    pub payload: &'a [u8],
+}
+
 #[derive(Clone, Copy)]
 pub enum Frame<'a> {
-    UserData {
-        data_type: DataType,
-        number: u8,
-        fqc: u8,
-        rfci: u8,
-        // the payload's checksum as received; plain data has none
-        checksum: Option<u16>,
-        place: usize,
-        payload: &'a [u8],
-    },
-    Question {
-        number: u8,
-        version: u8,
-        procedure: Procedure,
-        checksum: u16,
-        place: usize,
-        payload: &'a [u8],
-    },
-    Ack {
-        number: u8,
-        version: u8,
-        procedure: Procedure,
-        place: usize,
-        payload: &'a [u8],
-    },
-    Nack {
-        number: u8,
-        version: u8,
-        procedure: Procedure,
-        place: usize,
-        payload: &'a [u8],
-    },
+    UserData(UserData<'a>),
+    Question(Question<'a>),
+    Ack(Answer<'a>),
+    Nack(Answer<'a>),
 }

@@ -1,16 +1,15 @@
 // A line of upper-case hexadecimal digits, read into octets.
-ghost use Rattle.std.specs.Prelude.{◌≡◌, ℕ, ◌+◌, ◌*◌, ◌/◌, ◌%◌, ◌<◌, ◌≤◌, true, ◌++◌, length, take, drop, IfOk, Ok};
-ghost use Rattle.frames.specs.Frame.{longest};
-ghost use Rattle.frames.specs.Hex.{is_digit, value_of, all_digits, octets_in, hex_in, counted, filled};
+ghost use Rattle.std.specs.Prelude.{◌≡◌, ◌<◌, ◌%◌, true, length};
+ghost use Rattle.frames.specs.Hex.{is_digit, value_of, pair_in, all_digits, hex_in};
 
-use crate::octets::LONGEST;
+use crate::octets::Octets;
 use crate::refusal::Refusal;
 
 // Whether a byte of text is an upper-case digit.
 pub fn is_digit(byte: u8) -> bool
     ensures { result ≡ is_digit byte }
 {
-    (byte >= b'0' && byte <= b'9') || (byte >= b'A' && byte <= b'F')
+    matches!(byte, b'0'..=b'9' | b'A'..=b'F')
 }
 
 fn value(digit: u8) -> u8
@@ -25,47 +24,41 @@ fn value(digit: u8) -> u8
     }
 }
 
+// The octet of two digits, the high half first.
+pub fn read_pair(high: u8, low: u8) -> Result<u8, Refusal>
+    ensures { result ≡ pair_in high low }
+{
+    if !is_digit(high) || !is_digit(low) {
+        return Err(Refusal::Hexadecimal);
+    }
+    Ok(value(high) * 16 + value(low))
+}
+
 fn all_digits(line: &[u8]) -> bool
     ensures { result ≡ all_digits line.now }
 {
-    for byte in line {
-        if !is_digit(*byte) {
-            return false;
-        }
-    }
-    true
+    line.iter().all(|byte| is_digit(*byte))
 }
 
-// Writes the octet of each pair of digits.
-fn fill(digits: &[u8], out: &mut [u8; 512])
+// The octet of each pair of digits.
+fn paired(digits: &[u8]) -> Result<Octets, Refusal>
     requires digits { all_digits digits.now ≡ true }
     requires even { length digits.now % 2 ≡ 0 }
-    requires room { length digits.now / 2 ≤ 512 }
-    ensures out { out.new ≡ octets_in digits.now ++ drop (length (octets_in digits.now)) out.old }
-    ensures count { length (octets_in digits.now) ≡ length digits.now / 2 }
-    ensures front { take (length digits.now / 2) out.new ≡ octets_in digits.now }
+    ensures { result ≡ hex_in digits.now }
 {
-    for i in 0..digits.len() / 2 {
-        let high = value(digits[2 * i]);
-        let low = value(digits[2 * i + 1]);
-        out[i] = high * 16 + low;
+    let mut octets = Octets::new();
+    for pair in digits.chunks_exact(2) {
+        octets.push(read_pair(pair[0], pair[1])?)?;
     }
+    Ok(octets)
 }
 
-// The octets of a line fill the start of `out`, and their count is told. A line that is refused leaves `out` as it was.
-pub fn read_hex(line: &[u8], out: &mut [u8; 512]) -> Result<usize, Refusal>
-    ensures answer { result ≡ counted (hex_in line.now) }
-    ensures out { out.new ≡ filled (hex_in line.now) out.old }
-    ensures few { IfOk result (λ n. n ≤ longest) }
-    ensures reads { IfOk result (λ n. hex_in line.now ≡ Ok (take n out.new)) }
+// The octets of a line, refused where it has strange or single digits, or more than a frame.
+pub fn read_hex(line: &[u8]) -> Result<Octets, Refusal>
+    ensures { result ≡ hex_in line.now }
 {
     if !all_digits(line) || line.len() % 2 != 0 {
         return Err(Refusal::Hexadecimal);
     }
-    let count = line.len() / 2;
-    if count > LONGEST {
-        return Err(Refusal::TooLong);
-    }
-    fill(line, out);
-    Ok(count)
+    paired(line)
 }

@@ -3,6 +3,7 @@
 #![tactic(auto)]
 
 pub mod cause;
+pub mod control_kind;
 mod counting;
 pub mod data_type;
 pub mod distance;
@@ -10,13 +11,12 @@ pub mod extent;
 pub mod frame;
 pub mod header;
 pub mod hex;
-mod holding;
-mod joining;
 pub mod mask;
 pub mod number;
 pub mod octets;
 pub mod procedure;
 pub mod reading;
 pub mod refusal;
+pub mod row;
 pub mod shift;
 mod values;

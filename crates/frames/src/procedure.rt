@@ -4,28 +4,27 @@ ghost use Rattle.frames.specs.Procedures.{code_of, procedure_in};
 
 use crate::refusal::Refusal;
 
-#[derive(Clone, Copy)]
+#[derive(Clone, Copy, PartialEq, Eq, Debug)]
 pub enum Procedure {
-    Initialisation,
-    RateControl,
-    TimeAlignment,
-    ErrorEvent,
+    Initialisation = 0,
+    RateControl = 1,
+    TimeAlignment = 2,
+    ErrorEvent = 3,
 }
 
 impl Procedure {
     pub fn code(self) -> u8
         ensures { result ≡ code_of self }
     {
-        match self {
-            Procedure::Initialisation => 0,
-            Procedure::RateControl => 1,
-            Procedure::TimeAlignment => 2,
-            Procedure::ErrorEvent => 3,
-        }
+        self as u8
     }
+}
 
-    // The numbers over 3 are reserved.
-    pub fn of_code(code: u8) -> Result<Procedure, Refusal>
+// The numbers over 3 are reserved.
+impl TryFrom<u8> for Procedure {
+    type Error = Refusal;
+
+    fn try_from(code: u8) -> Result<Procedure, Refusal>
         ensures { result ≡ procedure_in code }
     {
         match code {

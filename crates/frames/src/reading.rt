@@ -1,51 +1,14 @@
 // Frames read from received octets.
-ghost use Rattle.std.specs.Prelude.{◌≡◌, ◌+◌, ◌*◌, ◌%◌, ◌≤◌, length, IfOk, Ok};
+ghost use Rattle.std.specs.Prelude.{◌≡◌, ℕ, ◌+◌, ◌*◌, ◌%◌, ◌/◌, ◌∷◌, IfOk};
 ghost use Rattle.frames.specs.Contents.{seen, content, contents, parsed, Fit};
-ghost use Rattle.frames.specs.declared.header.PduType.TheVariants.{CheckedData, PlainData, Control};
+ghost use Rattle.frames.specs.declared.header.PduType.TheVariants.{Control};
 
+use crate::control_kind::ControlKind;
 use crate::data_type::DataType;
-use crate::frame::Frame;
+use crate::frame::{Answer, DataHeader, Frame, Question, UserData};
 use crate::header::{PduType, read_header};
 use crate::procedure::Procedure;
 use crate::refusal::Refusal;
-
-fn read_plain(octets: &[u8]) -> Frame<'_>
-    requires { (3 ≤ length octets.now) × (length octets.now ≤ 512) }
-    ensures says { seen (Ok result) ≡ contents PlainData octets.now }
-    ensures fit { Fit (content result) }
-{
-    let [first, second, _, payload @ ..] = octets else {
-        return unreachable();
-    };
-    Frame::UserData {
-        data_type: DataType::Plain,
-        number: first % 16,
-        fqc: second >> 6,
-        rfci: second % 64,
-        checksum: None,
-        place: 3,
-        payload,
-    }
-}
-
-fn read_checked(octets: &[u8]) -> Frame<'_>
-    requires { (4 ≤ length octets.now) × (length octets.now ≤ 512) }
-    ensures says { seen (Ok result) ≡ contents CheckedData octets.now }
-    ensures fit { Fit (content result) }
-{
-    let [first, second, third, fourth, payload @ ..] = octets else {
-        return unreachable();
-    };
-    Frame::UserData {
-        data_type: DataType::Checked,
-        number: first % 16,
-        fqc: second >> 6,
-        rfci: second % 64,
-        checksum: Some(sum_field(*third, *fourth)),
-        place: 4,
-        payload,
-    }
-}
 
 // The ten bits after the header checksum.
 fn sum_field(third: u8, fourth: u8) -> u16
@@ -54,47 +17,48 @@ fn sum_field(third: u8, fourth: u8) -> u16
     (third % 4) as u16 * 256 + fourth as u16
 }
 
-// An answer's ten bits are spare, and not read.
-fn read_control(octets: &[u8]) -> Result<Frame<'_>, Refusal>
-    requires { (4 ≤ length octets.now) × (length octets.now ≤ 512) }
-    ensures says { seen result ≡ contents Control octets.now }
-    ensures fit { IfOk result (λ f. Fit (content f)) }
+// The fields of user data in the first two octets.
+fn data_header(data_type: DataType, first: u8, second: u8) -> DataHeader
+    ensures { result ≡ record { data_type = data_type; number = first % 16; fqc = second / 64; rfci = second % 64 } }
 {
-    let [first, second, third, fourth, payload @ ..] = octets else {
-        return unreachable();
+    DataHeader {
+        data_type,
+        number: first % 16,
+        fqc: second >> 6,
+        rfci: second % 64,
+    }
+}
+
+// An answer's ten bits are spare, and not read.
+fn read_control<'a>(
+    first: u8,
+    second: u8,
+    third: u8,
+    fourth: u8,
+    payload: &'a [u8],
+) -> Result<Frame<'a>, Refusal>
+    ensures { seen result ≡ contents Control (first ∷ second ∷ third ∷ fourth ∷ payload.now) }
+{
+    let kind = ControlKind::try_from((first >> 2) % 4)?;
+    let answer = Answer {
+        number: first % 4,
+        version: second >> 4,
+        procedure: Procedure::try_from(second % 16)?,
+        place: 4,
+        payload,
     };
-    let kind = (first >> 2) % 4;
-    if kind == 3 {
-        return Err(Refusal::ReservedValue);
-    }
-    let procedure = Procedure::of_code(second % 16)?;
-    let number = first % 4;
-    let version = second >> 4;
-    let place = 4;
-    match kind {
-        0 => Ok(Frame::Question {
-            number,
-            version,
-            procedure,
-            checksum: sum_field(*third, *fourth),
-            place,
+    Ok(match kind {
+        ControlKind::Question => Frame::Question(Question {
+            number: answer.number,
+            version: answer.version,
+            procedure: answer.procedure,
+            checksum: sum_field(third, fourth),
+            place: answer.place,
             payload,
         }),
-        1 => Ok(Frame::Ack {
-            number,
-            version,
-            procedure,
-            place,
-            payload,
-        }),
-        _ => Ok(Frame::Nack {
-            number,
-            version,
-            procedure,
-            place,
-            payload,
-        }),
-    }
+        ControlKind::Ack => Frame::Ack(answer),
+        ControlKind::Nack => Frame::Nack(answer),
+    })
 }
 
 // The header decides first; then, in a control frame, its kind and its procedure.
@@ -103,9 +67,25 @@ pub fn read(octets: &[u8]) -> Result<Frame<'_>, Refusal>
     ensures fit { IfOk result (λ f. Fit (content f)) }
 {
     let header = read_header(octets)?;
-    match header.pdu_type {
-        PduType::CheckedData => Ok(read_checked(octets)),
-        PduType::PlainData => Ok(read_plain(octets)),
-        PduType::Control => read_control(octets),
+    match (header.pdu_type, octets) {
+        (PduType::PlainData, [first, second, _, payload @ ..]) => Ok(Frame::UserData(UserData {
+            header: data_header(DataType::Plain, *first, *second),
+            checksum: None,
+            place: 3,
+            payload,
+        })),
+        (PduType::CheckedData, [first, second, third, fourth, payload @ ..]) => {
+            Ok(Frame::UserData(UserData {
+                header: data_header(DataType::Checked, *first, *second),
+                checksum: Some(sum_field(*third, *fourth)),
+                place: 4,
+                payload,
+            }))
+        }
+        (PduType::Control, [first, second, third, fourth, payload @ ..]) => {
+            read_control(*first, *second, *third, *fourth, payload)
+        }
+        // the header was there
+        _ => unreachable(),
     }
 }

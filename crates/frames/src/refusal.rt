@@ -1,40 +1,43 @@
 // Why a call is refused: one case for each number that the product answers.
-ghost use Rattle.std.specs.Prelude.{◌≡◌};
+ghost use Rattle.std.specs.Prelude.{◌≡◌, Some};
+ghost use Rattle.std.specs.Fmt.{decimal};
 ghost use Rattle.frames.specs.Refusals.{number_of};
 
-#[derive(Clone, Copy)]
+use std::fmt;
+
+#[derive(Clone, Copy, PartialEq, Eq, Debug)]
 pub enum Refusal {
     // a received frame
-    HeaderChecksum,
-    PayloadChecksum,
-    PduType,
-    Procedure,
-    ReservedValue,
-    TooShort,
-    UnexpectedPduType,
-    UnexpectedProcedure,
-    UnknownRfci,
-    UnexpectedValue,
-    ModeVersion,
-    TooLong,
+    HeaderChecksum = 0,
+    PayloadChecksum = 1,
+    PduType = 4,
+    Procedure = 5,
+    ReservedValue = 6,
+    TooShort = 8,
+    UnexpectedPduType = 16,
+    UnexpectedProcedure = 18,
+    UnknownRfci = 19,
+    UnexpectedValue = 20,
+    ModeVersion = 49,
+    TooLong = 100,
     // a call
-    SettingRange,
-    HostHoldsQuestion,
-    NotThisQuestion,
-    LinkTooLong,
-    LineDeclines,
-    WrongPhase,
-    AlreadyRuns,
-    RfciBarred,
-    OctetCount,
-    RfciTaken,
-    Dimensions,
-    TooManyCombinations,
-    NoCombination,
-    ValueRange,
-    Hexadecimal,
-    NoSuchSizes,
-    BufferTooSmall,
+    SettingRange = 101,
+    HostHoldsQuestion = 102,
+    NotThisQuestion = 103,
+    LinkTooLong = 104,
+    LineDeclines = 105,
+    WrongPhase = 106,
+    AlreadyRuns = 107,
+    RfciBarred = 108,
+    OctetCount = 109,
+    RfciTaken = 110,
+    Dimensions = 111,
+    TooManyCombinations = 112,
+    NoCombination = 113,
+    ValueRange = 114,
+    Hexadecimal = 115,
+    NoSuchSizes = 116,
+    BufferTooSmall = 117,
 }
 
 impl Refusal {
@@ -42,36 +45,15 @@ impl Refusal {
     pub fn number(self) -> u8
         ensures { result ≡ number_of self }
     {
-        match self {
-            Refusal::HeaderChecksum => 0,
-            Refusal::PayloadChecksum => 1,
-            Refusal::PduType => 4,
-            Refusal::Procedure => 5,
-            Refusal::ReservedValue => 6,
-            Refusal::TooShort => 8,
-            Refusal::UnexpectedPduType => 16,
-            Refusal::UnexpectedProcedure => 18,
-            Refusal::UnknownRfci => 19,
-            Refusal::UnexpectedValue => 20,
-            Refusal::ModeVersion => 49,
-            Refusal::TooLong => 100,
-            Refusal::SettingRange => 101,
-            Refusal::HostHoldsQuestion => 102,
-            Refusal::NotThisQuestion => 103,
-            Refusal::LinkTooLong => 104,
-            Refusal::LineDeclines => 105,
-            Refusal::WrongPhase => 106,
-            Refusal::AlreadyRuns => 107,
-            Refusal::RfciBarred => 108,
-            Refusal::OctetCount => 109,
-            Refusal::RfciTaken => 110,
-            Refusal::Dimensions => 111,
-            Refusal::TooManyCombinations => 112,
-            Refusal::NoCombination => 113,
-            Refusal::ValueRange => 114,
-            Refusal::Hexadecimal => 115,
-            Refusal::NoSuchSizes => 116,
-            Refusal::BufferTooSmall => 117,
-        }
+        self as u8
+    }
+}
+
+// The number in decimal digits.
+impl fmt::Display for Refusal {
+    ghost output = { λ refusal. Some (decimal (number_of refusal)) };
+
+    fn fmt<W: fmt::Write>(&self, f: &mut fmt::Formatter<W>) -> fmt::Result {
+        write!(f, "{}", self.number())
     }
 }

@@ -1,14 +1,13 @@
 // Values that fit their fields: made, refused where they do not fit, and told.
-ghost use Rattle.std.specs.Prelude.{◌≡◌, ◌≤◌, length};
-ghost use Rattle.frames.specs.Values.{as_cause, cause_in, as_shift, shift_of, shift_by, octet_of, as_marks, marks_in, marks_of};
+ghost use Rattle.std.specs.Prelude.{◌≡◌};
+ghost use Rattle.frames.specs.Values.{as_cause, cause_in, as_shift, shift_of, shift_by, octet_of};
 
 use crate::cause::Cause;
-use crate::mask::{MOST_MARKS, RateMask};
 use crate::refusal::Refusal;
 use crate::shift::{Direction, Shift};
 
 impl Cause {
-    // A value over 63 is refused.
+    // A value over 63 is refused. No conversion: the field's own value, checked.
     pub fn new(value: u8) -> Result<Cause, Refusal>
         ensures { as_cause result ≡ cause_in value }
     {
@@ -24,26 +23,9 @@ impl Shift {
     pub fn new(direction: Direction, steps: u8) -> Result<Shift, Refusal>
         ensures { as_shift result ≡ shift_by direction steps }
     {
-        if steps < 1 || steps > 80 {
-            return Err(Refusal::ValueRange);
-        }
-        Ok(Shift { direction, steps })
-    }
-
-    // What an octet of an alignment question asks for.
-    pub fn of_octet(octet: u8) -> Result<Shift, Refusal>
-        ensures { as_shift result ≡ shift_of octet }
-    {
-        match octet {
-            1..=80 => Ok(Shift {
-                direction: Direction::Delay,
-                steps: octet,
-            }),
-            129..=208 => Ok(Shift {
-                direction: Direction::Advance,
-                steps: octet - 128,
-            }),
-            _ => Err(Refusal::ReservedValue),
+        match steps {
+            1..=80 => Ok(Shift { direction, steps }),
+            _ => Err(Refusal::ValueRange),
         }
     }
 
@@ -58,21 +40,23 @@ impl Shift {
     }
 }
 
-impl RateMask {
-    // The first `count` of the marks, refused where that is over 63.
-    pub fn new(count: usize, bars: [bool; 63]) -> Result<RateMask, Refusal>
-        ensures { as_marks result ≡ marks_in count bars }
-    {
-        if count > MOST_MARKS {
-            return Err(Refusal::ValueRange);
-        }
-        Ok(RateMask { bars, count })
-    }
+// What an octet of an alignment question asks for.
+impl TryFrom<u8> for Shift {
+    type Error = Refusal;
 
-    pub fn marks(&self) -> &[bool]
-        ensures marks { result.now ≡ marks_of self.now }
-        ensures few { length result.now ≤ 63 }
+    fn try_from(octet: u8) -> Result<Shift, Refusal>
+        ensures { as_shift result ≡ shift_of octet }
     {
-        &self.bars[0..self.count]
+        match octet {
+            1..=80 => Ok(Shift {
+                direction: Direction::Delay,
+                steps: octet,
+            }),
+            129..=208 => Ok(Shift {
+                direction: Direction::Advance,
+                steps: octet - 128,
+            }),
+            _ => Err(Refusal::ReservedValue),
+        }
     }
 }

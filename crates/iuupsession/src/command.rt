@@ -1,102 +1,124 @@
 // What a line of a script asks for.
-use crate::reading::{Cursor, Message, Sizes};
+use crate::reading::{Cursor, Misread};
+use bearer::settings::{Numbering, Timing};
 use frames::shift::Direction;
 use script::marks::read_marks;
 use script::names::{End, Request, Verb, read_choice, read_request, read_verb};
 use script::unclear::Unclear;
+use std::alloc::Global;
 
-// The ticks and repeats of one procedure, as they were written.
-#[derive(Clone, Copy)]
-pub struct Supervision {
-    pub ticks: u16,
-    pub repeats: u8,
-}
-
+// Settings as they were written, not yet checked.
 #[derive(Clone, Copy)]
 pub struct Wishes {
-    pub initialisation: Supervision,
-    pub rate: Supervision,
-    pub alignment: Supervision,
-    pub timed: bool,
+    pub initialisation: Timing,
+    pub rate: Timing,
+    pub alignment: Timing,
+    pub numbering: Numbering,
     pub keep_damaged: bool,
     pub mark: u8,
 }
 
 // A call on an end that is open.
-#[derive(Clone, Copy)]
+#[derive(Drop)]
 pub enum Call {
     Start,
-    Rate([bool; 63]),
-    Align(Direction, u8),
-    Data(u8, u8, Message),
-    Report(u8),
-    Search(Sizes),
-    Receive(Message),
+    Rate { bars: [bool; 63] },
+    Align { direction: Direction, steps: u8 },
+    Data { rfci: u8, fqc: u8, payload: Vec<u8> },
+    Report { cause: u8 },
+    Search { sizes: Vec<u16> },
+    Receive { frame: Vec<u8> },
     Accept,
-    Decline(u8),
+    Decline { cause: u8 },
     Set,
     Tick,
     Take,
 }
 
-#[derive(Clone, Copy)]
+#[derive(Drop)]
 pub enum Command {
-    Draft(u8, bool, u8),
-    Add(u8, u8, Sizes),
+    Draft {
+        subflows: u8,
+        timed: bool,
+        data_type: u8,
+    },
+    Add {
+        rfci: u8,
+        ipti: u8,
+        sizes: Vec<u16>,
+    },
     Close,
     Settings(Wishes),
-    Cells(u64),
-    Ring(u64),
+    Line {
+        kind: LineKind,
+        size: usize,
+    },
     Open(End),
     At(End, Call),
     Carry(End),
 }
 
-// The most that COUNT and OCTETS may be: 18 digits.
-const MOST: u64 = 999_999_999_999_999_999;
+// A line is cells, so many, or a ring of so many octets.
+#[derive(Clone, Copy)]
+pub enum LineKind {
+    Cells,
+    Ring,
+}
 
 impl Cursor<'_> {
     fn draft(&mut self) -> Result<Command, Unclear> {
-        let subflows = self.octet()?;
-        let timed = self.number(1)? == 1;
-        Ok(Command::Draft(subflows, timed, self.octet()?))
+        let subflows = self.number()?;
+        let timed = self.number()?;
+        let data_type = self.number()?;
+        Ok(Command::Draft {
+            subflows,
+            timed,
+            data_type,
+        })
     }
 
-    fn combination(&mut self) -> Result<Command, Unclear> {
-        let rfci = self.octet()?;
-        let ipti = self.octet()?;
-        Ok(Command::Add(rfci, ipti, self.sizes()?))
+    fn combination(&mut self) -> Result<Command, Misread> {
+        let rfci = self.number()?;
+        let ipti = self.number()?;
+        let sizes = self.sizes()?;
+        Ok(Command::Add { rfci, ipti, sizes })
     }
 
-    fn supervision(&mut self) -> Result<Supervision, Unclear> {
-        let ticks = self.two_octets()?;
-        let repeats = self.octet()?;
-        Ok(Supervision { ticks, repeats })
+    fn timing(&mut self) -> Result<Timing, Unclear> {
+        let ticks = self.number()?;
+        let repeats = self.number()?;
+        Ok(Timing { ticks, repeats })
     }
 
     fn settings(&mut self) -> Result<Command, Unclear> {
-        let initialisation = self.supervision()?;
-        let rate = self.supervision()?;
-        let alignment = self.supervision()?;
-        let timed = read_choice(self.word()?, b"timed", b"counted")?;
-        let keep_damaged = read_choice(self.word()?, b"keep", b"drop")?;
-        let mark = self.octet()?;
+        let initialisation = self.timing()?;
+        let rate = self.timing()?;
+        let alignment = self.timing()?;
+        let numbering = read_choice(
+            self.word()?,
+            (b"timed", Numbering::Timed),
+            (b"counted", Numbering::Counted),
+        )?;
+        let keep_damaged = read_choice(self.word()?, (b"keep", true), (b"drop", false))?;
+        let mark = self.number()?;
         Ok(Command::Settings(Wishes {
             initialisation,
             rate,
             alignment,
-            timed,
+            numbering,
             keep_damaged,
             mark,
         }))
     }
 
     fn line(&mut self) -> Result<Command, Unclear> {
-        if read_choice(self.word()?, b"cells", b"ring")? {
-            Ok(Command::Cells(self.number(MOST)?))
-        } else {
-            Ok(Command::Ring(self.number(MOST)?))
-        }
+        let kind = read_choice(
+            self.word()?,
+            (b"cells", LineKind::Cells),
+            (b"ring", LineKind::Ring),
+        )?;
+        let size = self.number()?;
+        Ok(Command::Line { kind, size })
     }
 
     fn carry(&mut self) -> Result<Command, Unclear> {
@@ -106,39 +128,50 @@ impl Cursor<'_> {
         }
     }
 
+    // As `line` reads a name and a number, but other ones: a common reader would be no plainer.
     fn align(&mut self) -> Result<Call, Unclear> {
-        let direction = if read_choice(self.word()?, b"delay", b"advance")? {
-            Direction::Delay
-        } else {
-            Direction::Advance
-        };
-        Ok(Call::Align(direction, self.octet()?))
+        let direction = read_choice(
+            self.word()?,
+            (b"delay", Direction::Delay),
+            (b"advance", Direction::Advance),
+        )?;
+        let steps = self.number()?;
+        Ok(Call::Align { direction, steps })
     }
 
-    fn user_data(&mut self) -> Result<Call, Unclear> {
-        let rfci = self.octet()?;
-        let fqc = self.octet()?;
-        Ok(Call::Data(rfci, fqc, self.message()?))
+    // As `combination` reads three words, but of another meaning each: a common reader would be no plainer.
+    fn user_data(&mut self) -> Result<Call, Misread> {
+        let rfci = self.number()?;
+        let fqc = self.number()?;
+        let payload = self.octets()?;
+        Ok(Call::Data { rfci, fqc, payload })
     }
 
     fn decline(&mut self) -> Result<Call, Unclear> {
-        match self.octet()? {
-            47 => Ok(Call::Decline(47)),
-            48 => Ok(Call::Decline(48)),
+        match self.number()? {
+            cause @ (47u8 | 48) => Ok(Call::Decline { cause }),
             _ => Err(Unclear::Value),
         }
     }
 
-    fn at(&mut self, end: End) -> Result<Command, Unclear> {
+    fn at(&mut self, end: End) -> Result<Command, Misread> {
         let call = match read_request(self.word()?)? {
             Request::Open => return Ok(Command::Open(end)),
             Request::Start => Call::Start,
-            Request::Rate => Call::Rate(read_marks(self.word()?)?),
+            Request::Rate => Call::Rate {
+                bars: read_marks(self.word()?)?,
+            },
             Request::Align => self.align()?,
             Request::Data => self.user_data()?,
-            Request::Report => Call::Report(self.octet()?),
-            Request::Search => Call::Search(self.sizes()?),
-            Request::Receive => Call::Receive(self.message()?),
+            Request::Report => Call::Report {
+                cause: self.number()?,
+            },
+            Request::Search => Call::Search {
+                sizes: self.sizes()?,
+            },
+            Request::Receive => Call::Receive {
+                frame: self.octets()?,
+            },
             Request::Accept => Call::Accept,
             Request::Decline => self.decline()?,
             Request::Set => Call::Set,
@@ -150,8 +183,8 @@ impl Cursor<'_> {
 }
 
 // A line is understood as a whole: nothing may follow what it asks for.
-pub(crate) fn understand(line: &[u8]) -> Result<Command, Unclear> {
-    let mut cursor = Cursor::new(line);
+pub(crate) fn understand(line: &[u8], alloc: Global) -> Result<Command, Misread> {
+    let mut cursor = Cursor::new(line, alloc);
     let command = match read_verb(cursor.word()?)? {
         Verb::Draft => cursor.draft()?,
         Verb::Add => cursor.combination()?,

@@ -1,17 +1,13 @@
 // What is prepared before an end is opened: the draft, the closed set, the settings, and the size of the next line.
-use crate::command::{Supervision, Wishes};
-use crate::printing::{print_answer, print_missing, print_refusal};
-use crate::reading::Sizes;
-use bearer::settings::{Numbering, Settings};
+use crate::answer::{Complaint, Missing};
+use crate::command::{LineKind, Wishes};
+use bearer::settings::Settings;
 use cells::count::CellCount;
-use exchange::limits::Limits;
 use frames::refusal::Refusal;
 use ring::size::RingSize;
 use sets::closed::Set;
 use sets::draft::Draft;
 use sets::opening::Opening;
-use std::io;
-use std::io::Write;
 
 #[derive(Clone, Copy)]
 pub enum LineSize {
@@ -25,25 +21,6 @@ pub struct Prepared {
     pub set: Option<Set>,
     pub settings: Option<Settings>,
     pub size: Option<LineSize>,
-}
-
-fn limits(supervision: Supervision) -> Result<Limits, Refusal> {
-    Limits::new(supervision.ticks, supervision.repeats)
-}
-
-fn settings(wishes: Wishes) -> Result<Settings, Refusal> {
-    Ok(Settings {
-        initialisation: limits(wishes.initialisation)?,
-        rate: limits(wishes.rate)?,
-        alignment: limits(wishes.alignment)?,
-        numbering: if wishes.timed {
-            Numbering::Timed
-        } else {
-            Numbering::Counted
-        },
-        keep_damaged: wishes.keep_damaged,
-        mark: wishes.mark,
-    })
 }
 
 impl Prepared {
@@ -62,75 +39,48 @@ impl Prepared {
         subflows: u8,
         timed: bool,
         data_type: u8,
-        out: &mut impl Write,
-    ) -> io::Result<()> {
-        match Opening::new(subflows, timed, data_type) {
-            Ok(opening) => {
-                self.draft = Some(Draft::open(opening));
-                writeln!(out, "ok")
-            }
-            Err(refusal) => print_refusal(refusal, out),
-        }
+    ) -> Result<(), Refusal> {
+        self.draft = Some(Draft::open(Opening::new(subflows, timed, data_type)?));
+        Ok(())
     }
 
-    pub(crate) fn add(
-        &mut self,
-        rfci: u8,
-        ipti: u8,
-        sizes: Sizes,
-        out: &mut impl Write,
-    ) -> io::Result<()> {
-        match self.draft.take() {
-            Some(mut draft) => {
-                let answer = draft.add(rfci, ipti, sizes.as_slice());
-                self.draft = Some(draft);
-                print_answer(answer, out)
-            }
-            None => print_missing("draft", out),
-        }
+    pub(crate) fn add(&mut self, rfci: u8, ipti: u8, sizes: &[u16]) -> Result<(), Complaint> {
+        let Some(draft) = &mut self.draft else {
+            return Err(Complaint::Missing(Missing::Draft));
+        };
+        draft.add(rfci, ipti, sizes)?;
+        Ok(())
     }
 
     // An empty draft stays open.
-    pub(crate) fn close(&mut self, out: &mut impl Write) -> io::Result<()> {
-        let Some(draft) = self.draft.take() else {
-            return print_missing("draft", out);
-        };
+    pub(crate) fn close(&mut self) -> Result<(), Complaint> {
+        let draft = self.draft.take().ok_or(Missing::Draft)?;
         match draft.close(&mut self.set) {
-            Ok(()) => writeln!(out, "ok"),
+            Ok(()) => Ok(()),
             Err(unclosed) => {
                 self.draft = Some(Draft::open(unclosed.opening));
-                print_refusal(unclosed.refusal, out)
+                Err(Complaint::Refused(unclosed.refusal))
             }
         }
     }
 
-    pub(crate) fn settle(&mut self, wishes: Wishes, out: &mut impl Write) -> io::Result<()> {
-        match settings(wishes) {
-            Ok(settings) => {
-                self.settings = Some(settings);
-                writeln!(out, "ok")
-            }
-            Err(refusal) => print_refusal(refusal, out),
-        }
+    pub(crate) fn settle(&mut self, wishes: Wishes) -> Result<(), Refusal> {
+        self.settings = Some(Settings::new(
+            wishes.initialisation,
+            wishes.rate,
+            wishes.alignment,
+            wishes.numbering,
+            wishes.keep_damaged,
+            wishes.mark,
+        )?);
+        Ok(())
     }
 
-    pub(crate) fn measure_cells(&mut self, count: u64, out: &mut impl Write) -> io::Result<()> {
-        match CellCount::new(count as usize) {
-            Ok(count) => {
-                self.size = Some(LineSize::Cells(count));
-                writeln!(out, "ok")
-            }
-            Err(refusal) => print_refusal(refusal, out),
-        }
-    }
-
-    pub(crate) fn measure_ring(&mut self, octets: u64, out: &mut impl Write) -> io::Result<()> {
-        match RingSize::new(octets as usize) {
-            Ok(size) => {
-                self.size = Some(LineSize::Ring(size));
-                writeln!(out, "ok")
-            }
-            Err(refusal) => print_refusal(refusal, out),
-        }
+    pub(crate) fn measure(&mut self, kind: LineKind, size: usize) -> Result<(), Refusal> {
+        self.size = Some(match kind {
+            LineKind::Cells => LineSize::Cells(CellCount::new(size)?),
+            LineKind::Ring => LineSize::Ring(RingSize::new(size)?),
+        });
+        Ok(())
     }
 }

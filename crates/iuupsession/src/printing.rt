@@ -1,133 +1,122 @@
-// How answers and reports are written.
-use frames::refusal::Refusal;
+// How octets, sets and what a report tells are written.
 use reports::ending::{Ending, Kind};
-use reports::report::{Delivery, Entry, Report};
-use script::unclear::Unclear;
+use reports::happening::{Delivery, Happening};
 use set_in_force::in_force::InForce;
-use sets::table::Combination;
-use std::io;
-use std::io::Write;
+use sets::combination::Combination;
+use std::fmt;
 
-fn print_octets(octets: &[u8], out: &mut impl Write) -> io::Result<()> {
-    for octet in octets {
-        write!(out, "{octet:02X}")?;
-    }
-    Ok(())
-}
+// Octets, in upper-case hexadecimal digits.
+#[derive(Clone, Copy)]
+pub struct Hex<'a>(pub &'a [u8]);
 
-pub(crate) fn print_refusal(refusal: Refusal, out: &mut impl Write) -> io::Result<()> {
-    let number = refusal.number();
-    writeln!(out, "no {number}")
-}
-
-pub(crate) fn print_answer(answer: Result<(), Refusal>, out: &mut impl Write) -> io::Result<()> {
-    match answer {
-        Ok(()) => writeln!(out, "ok"),
-        Err(refusal) => print_refusal(refusal, out),
+impl<'a> fmt::Display for Hex<'a> {
+    fn fmt<W: fmt::Write>(&self, f: &mut fmt::Formatter<W>) -> fmt::Result {
+        for octet in self.0 {
+            write!(f, "{octet:02X}")?;
+        }
+        Ok(())
     }
 }
 
-// A line that asks for something that is not there.
-pub(crate) fn print_missing(what: &str, out: &mut impl Write) -> io::Result<()> {
-    writeln!(out, "? there is no {what}")
-}
+#[derive(Clone, Copy)]
+struct KindName(Kind);
 
-pub(crate) fn print_unclear(unclear: Unclear, out: &mut impl Write) -> io::Result<()> {
-    let why = match unclear {
-        Unclear::Name => "an unknown word",
-        Unclear::Words => "too few words, or too many",
-        Unclear::Value => "a value that does not fit its place",
-    };
-    writeln!(out, "? {why}")
-}
-
-fn kind_name(kind: Kind) -> &'static str {
-    match kind {
-        Kind::Initialisation => "init",
-        Kind::RateControl => "rate",
-        Kind::TimeAlignment => "align",
-        Kind::HostQuestion => "question",
-    }
-}
-
-fn print_end(kind: Kind, ending: Ending, out: &mut impl Write) -> io::Result<()> {
-    let name = kind_name(kind);
-    match (ending, ending.cause()) {
-        (_, Some(cause)) => writeln!(out, "ended {name} {cause}"),
-        (Ending::Overtaken, _) => writeln!(out, "ended {name} overtaken"),
-        (Ending::Accepted, _) => writeln!(out, "ended {name} accepted"),
-        _ => writeln!(out, "ended {name} done"),
-    }
-}
-
-fn print_delivery(delivery: Delivery, out: &mut impl Write) -> io::Result<()> {
-    let rfci = delivery.rfci;
-    let fqc = delivery.fqc;
-    let gap = delivery.gap;
-    let place = delivery.place;
-    write!(out, "delivered {rfci} {fqc} {gap} {place}")?;
-    for subflow in 0..7usize {
-        if let Some(part) = delivery.subflows.get(subflow) {
-            let first = part.first;
-            let bits = part.bits;
-            write!(out, " {first}+{bits}")?;
+impl fmt::Display for KindName {
+    fn fmt<W: fmt::Write>(&self, f: &mut fmt::Formatter<W>) -> fmt::Result {
+        match self.0 {
+            Kind::Initialisation => write!(f, "init"),
+            Kind::RateControl => write!(f, "rate"),
+            Kind::TimeAlignment => write!(f, "align"),
+            Kind::HostQuestion => write!(f, "question"),
         }
     }
-    writeln!(out)
 }
 
-fn print_frame(what: &str, octets: &[u8], out: &mut impl Write) -> io::Result<()> {
-    write!(out, "{what} ")?;
-    print_octets(octets, out)?;
-    writeln!(out)
+// How a procedure ended: a failure by its cause.
+#[derive(Clone, Copy)]
+struct Outcome(Ending);
+
+impl fmt::Display for Outcome {
+    fn fmt<W: fmt::Write>(&self, f: &mut fmt::Formatter<W>) -> fmt::Result {
+        match (self.0, self.0.cause()) {
+            (_, Some(cause)) => write!(f, "{cause}"),
+            (Ending::Overtaken, None) => write!(f, "overtaken"),
+            (Ending::Accepted, None) => write!(f, "accepted"),
+            (_, None) => write!(f, "done"),
+        }
+    }
 }
 
-// The entries of a report, each on a line of its own.
-pub(crate) fn print_report(report: &Report, out: &mut impl Write) -> io::Result<()> {
-    for entry in report.entries() {
-        write!(out, "  ")?;
-        match *entry {
-            Entry::Started(kind) => {
-                let name = kind_name(kind);
-                writeln!(out, "started {name}")?;
+#[derive(Clone, Copy)]
+struct Delivered(Delivery);
+
+impl fmt::Display for Delivered {
+    fn fmt<W: fmt::Write>(&self, f: &mut fmt::Formatter<W>) -> fmt::Result {
+        let Delivery {
+            rfci,
+            fqc,
+            gap,
+            place,
+            subflows,
+        } = self.0;
+        write!(f, "{rfci} {fqc} {gap} {place}")?;
+        for part in subflows.as_slice() {
+            write!(f, " {}+{}", part.first, part.bits)?;
+        }
+        Ok(())
+    }
+}
+
+// A thing that a report tells.
+#[derive(Clone, Copy)]
+pub struct Said(pub Happening);
+
+impl fmt::Display for Said {
+    fn fmt<W: fmt::Write>(&self, f: &mut fmt::Formatter<W>) -> fmt::Result {
+        match self.0 {
+            Happening::Started(kind) => write!(f, "started {}", KindName(kind)),
+            Happening::Ended(kind, ending) => {
+                write!(f, "ended {} {}", KindName(kind), Outcome(ending))
             }
-            Entry::Ended(kind, ending) => print_end(kind, ending, out)?,
-            Entry::Delivered(delivery) => print_delivery(delivery, out)?,
-            Entry::HandedOver(frame) => print_frame("handed", frame.as_slice(), out)?,
-            Entry::Refused(frame) => print_frame("refused", frame.as_slice(), out)?,
+            Happening::Delivered(delivery) => write!(f, "delivered {}", Delivered(delivery)),
+            Happening::HandedOver(frame) => write!(f, "handed {}", Hex(frame.as_slice())),
+            Happening::Refused(frame) => write!(f, "refused {}", Hex(frame.as_slice())),
         }
     }
-    Ok(())
 }
 
-fn print_combination(
-    combination: Combination,
-    subflows: u8,
-    out: &mut impl Write,
-) -> io::Result<()> {
-    let rfci = combination.rfci;
-    let ipti = combination.ipti;
-    write!(out, " {rfci}/{ipti}/")?;
-    for (k, size) in combination.sizes.iter().take(subflows as usize).enumerate() {
-        let comma = if k == 0 { "" } else { "," };
-        write!(out, "{comma}{size}")?;
+// A combination, with its mark.
+#[derive(Clone, Copy)]
+struct Row<'a>(&'a Combination);
+
+impl<'a> fmt::Display for Row<'a> {
+    fn fmt<W: fmt::Write>(&self, f: &mut fmt::Formatter<W>) -> fmt::Result {
+        let row = self.0;
+        write!(f, "{}/{}", row.rfci(), row.ipti())?;
+        let mut before = '/';
+        for size in row.sizes() {
+            write!(f, "{before}{size}")?;
+            before = ',';
+        }
+        let mark = if row.is_allowed() { 'a' } else { 'b' };
+        write!(f, "/{mark}")
     }
-    let mark = if combination.allowed { "a" } else { "b" };
-    write!(out, "/{mark}")
 }
 
-// The set in force, each combination with its mark.
-pub(crate) fn print_set(set: Option<InForce>, out: &mut impl Write) -> io::Result<()> {
-    let Some(set) = set else {
-        return writeln!(out, "ok none");
-    };
-    let opening = set.table.opening;
-    let subflows = opening.subflows;
-    let timed = if opening.timed { 1u8 } else { 0 };
-    let data_type = opening.data_type;
-    write!(out, "ok {subflows} {timed} {data_type}")?;
-    for combination in set.table.combinations.iter().take(set.table.count) {
-        print_combination(*combination, subflows, out)?;
+// A set in force, each combination with its mark.
+#[derive(Clone, Copy)]
+pub struct Standing<'a>(pub &'a InForce);
+
+impl<'a> fmt::Display for Standing<'a> {
+    fn fmt<W: fmt::Write>(&self, f: &mut fmt::Formatter<W>) -> fmt::Result {
+        let opening = self.0.opening();
+        let subflows = opening.subflows();
+        let timed = u8::from(opening.is_timed());
+        let data_type = opening.data_type().number();
+        write!(f, "{subflows} {timed} {data_type}")?;
+        for combination in self.0.rows() {
+            write!(f, " {}", Row(combination))?;
+        }
+        Ok(())
     }
-    writeln!(out)
 }

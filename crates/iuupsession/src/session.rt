@@ -1,115 +1,90 @@
 // A session: what is prepared, and the end that is driven.
+use crate::answer::{Answer, Complaint, Missing};
 use crate::command::{Call, Command, understand};
 use crate::driving::drive;
 use crate::preparing::{LineSize, Prepared};
-use crate::printing::{print_missing, print_report, print_unclear};
-use bearer::settings::Settings;
+use crate::printing::Said;
+use crate::reading::Misread;
 use cells::cells::Cells;
-use lines::line::Line;
 use radio_end::state::RadioEnd;
 use reports::report::Report;
 use ring::ring::Ring;
 use script::names::End;
-use script::words::next_word;
+use script::words::Words;
+use std::alloc::Global;
 use std::io;
 use std::io::Write;
 
-// At most one radio end is open, over one kind of line or the other.
+// A radio end, over one kind of line or the other.
+#[derive(Drop)]
+enum Radio {
+    OverCells(RadioEnd<Cells>),
+    OverRing(RadioEnd<Ring>),
+}
+
+// At most one radio end is open.
 #[derive(Drop)]
 pub struct Session {
     prepared: Prepared,
-    in_cells: Option<RadioEnd<Cells>>,
-    in_ring: Option<RadioEnd<Ring>>,
+    radio: Option<Radio>,
+    alloc: Global,
 }
 
 // Blank lines and remarks ask for nothing.
 fn is_silent(line: &[u8]) -> bool {
-    match line {
-        [b'#', ..] => true,
-        _ => next_word(line).is_none(),
-    }
+    line.starts_with(b"#") || Words::of(line).next().is_none()
 }
 
 impl Session {
-    pub(crate) fn new() -> Session {
+    pub(crate) fn new(alloc: Global) -> Session {
         Session {
             prepared: Prepared::new(),
-            in_cells: None,
-            in_ring: None,
+            radio: None,
+            alloc,
         }
     }
 
     // An end that was open is let go.
-    fn open_over(&mut self, settings: Settings, size: LineSize) {
-        match size {
-            LineSize::Cells(count) => {
-                self.in_cells = Some(RadioEnd::open(settings, Cells::new(count)));
-                self.in_ring = None;
-            }
-            LineSize::Ring(size) => {
-                self.in_cells = None;
-                self.in_ring = Some(RadioEnd::open(settings, Ring::new(size)));
-            }
-        }
+    fn open_radio(&mut self) -> Result<(), Complaint> {
+        let settings = self.prepared.settings.ok_or(Missing::Settings)?;
+        let size = self.prepared.size.ok_or(Missing::LineSize)?;
+        self.radio = Some(match size {
+            LineSize::Cells(count) => Radio::OverCells(RadioEnd::open(settings, Cells::new(count))),
+            LineSize::Ring(size) => Radio::OverRing(RadioEnd::open(settings, Ring::new(size))),
+        });
+        Ok(())
     }
 
-    fn open_radio(&mut self, out: &mut impl Write) -> io::Result<()> {
-        let Some(settings) = self.prepared.settings else {
-            return print_missing("settings", out);
-        };
-        let Some(size) = self.prepared.size else {
-            return print_missing("line size", out);
-        };
-        self.open_over(settings, size);
-        writeln!(out, "ok")
-    }
-
-    fn open(&mut self, end: End, out: &mut impl Write) -> io::Result<()> {
-        match end {
-            End::Radio => self.open_radio(out),
-            End::Core => print_missing("core end", out),
-        }
-    }
-
-    fn call_radio(&mut self, call: Call, out: &mut impl Write) -> io::Result<()> {
-        let mut report = Report::new();
+    fn call_radio(&mut self, call: Call, report: &mut Report) -> Result<Answer, Complaint> {
         let set = self.prepared.set;
-        if let Some(mut radio) = self.in_cells.take() {
-            drive(&mut radio, call, set, &mut report, out)?;
-            self.in_cells = Some(radio);
-        } else if let Some(mut radio) = self.in_ring.take() {
-            drive(&mut radio, call, set, &mut report, out)?;
-            self.in_ring = Some(radio);
-        } else {
-            print_missing("radio end", out)?;
-        }
-        print_report(&report, out)
-    }
-
-    fn call(&mut self, end: End, call: Call, out: &mut impl Write) -> io::Result<()> {
-        match end {
-            End::Radio => self.call_radio(call, out),
-            End::Core => print_missing("core end", out),
+        match &mut self.radio {
+            Some(Radio::OverCells(radio)) => drive(radio, call, set, report),
+            Some(Radio::OverRing(radio)) => drive(radio, call, set, report),
+            None => Err(Complaint::Missing(Missing::RadioEnd)),
         }
     }
 
-    fn obey(&mut self, command: Command, out: &mut impl Write) -> io::Result<()> {
+    fn obey(&mut self, command: Command, report: &mut Report) -> Result<Answer, Complaint> {
         match command {
-            Command::Draft(subflows, timed, data_type) => {
-                self.prepared.open_draft(subflows, timed, data_type, out)
+            Command::Draft {
+                subflows,
+                timed,
+                data_type,
+            } => self.prepared.open_draft(subflows, timed, data_type)?,
+            Command::Add { rfci, ipti, sizes } => self.prepared.add(rfci, ipti, sizes.as_slice())?,
+            Command::Close => self.prepared.close()?,
+            Command::Settings(wishes) => self.prepared.settle(wishes)?,
+            Command::Line { kind, size } => self.prepared.measure(kind, size)?,
+            Command::Open(End::Radio) => self.open_radio()?,
+            Command::At(End::Radio, call) => return self.call_radio(call, report),
+            Command::Open(End::Core) | Command::At(End::Core, _) | Command::Carry(_) => {
+                return Err(Complaint::Missing(Missing::CoreEnd));
             }
-            Command::Add(rfci, ipti, sizes) => self.prepared.add(rfci, ipti, sizes, out),
-            Command::Close => self.prepared.close(out),
-            Command::Settings(wishes) => self.prepared.settle(wishes, out),
-            Command::Cells(count) => self.prepared.measure_cells(count, out),
-            Command::Ring(octets) => self.prepared.measure_ring(octets, out),
-            Command::Open(end) => self.open(end, out),
-            Command::At(end, call) => self.call(end, call, out),
-            Command::Carry(_) => print_missing("core end", out),
         }
+        Ok(Answer::Done)
     }
 
-    // One line of the script: its echo, and what it answers.
+    // One line of the script: its echo, what it answers, and each entry of the report.
     pub(crate) fn play(&mut self, line: &[u8], out: &mut impl Write) -> io::Result<()> {
         if is_silent(line) {
             return Ok(());
@@ -117,9 +92,19 @@ impl Session {
         out.write_all(b"> ")?;
         out.write_all(line)?;
         out.write_all(b"\n")?;
-        match understand(line) {
-            Ok(command) => self.obey(command, out),
-            Err(unclear) => print_unclear(unclear, out),
+        let command = match understand(line, self.alloc) {
+            Ok(command) => command,
+            Err(Misread::Unclear(unclear)) => return writeln!(out, "? {unclear}"),
+            Err(Misread::Memory(error)) => return Err(error.into()),
+        };
+        let mut report = Report::new();
+        match self.obey(command, &mut report) {
+            Ok(answer) => writeln!(out, "{answer}")?,
+            Err(complaint) => writeln!(out, "{complaint}")?,
         }
+        for happening in report.happenings() {
+            writeln!(out, "  {}", Said(*happening))?;
+        }
+        Ok(())
     }
 }

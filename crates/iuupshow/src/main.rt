@@ -10,56 +10,42 @@ use std::io::{BufWriter, Read, Write};
 
 fn print_answer(answer: Result<Header, Refusal>, out: &mut impl Write) -> io::Result<()> {
     match answer {
-        Ok(header) => {
-            let pdu_type = header.pdu_type.number();
-            let length = header.header_length;
-            let payload = header.payload_length;
-            writeln!(out, "{pdu_type} {length} {payload}")
-        }
-        Err(refusal) => {
-            let number = refusal.number();
-            writeln!(out, "no {number}")
-        }
+        Ok(header) => writeln!(out, "{header}"),
+        Err(refusal) => writeln!(out, "no {refusal}"),
     }
 }
 
-// Shows the lines that end in a piece of the input, and answers whether one is left open. `open` says it of the piece before.
-fn show_lines(
-    piece: &[u8],
-    open: bool,
-    line: &mut Gathered,
-    out: &mut impl Write,
-) -> io::Result<bool> {
-    let mut open = open;
+// Shows the lines that end in a piece of the input. What follows the last of them stays open.
+fn show_lines(piece: &[u8], open: &mut Option<Gathered>, out: &mut impl Write) -> io::Result<()> {
     for byte in piece {
-        open = *byte != b'\n';
-        if open {
-            line.push(*byte);
-        } else {
+        if *byte == b'\n' {
+            let line = open.take().unwrap_or_else(Gathered::new);
             print_answer(line.show(), out)?;
-            *line = Gathered::new();
+        } else {
+            open.get_or_insert_with(Gathered::new).push(*byte);
         }
     }
-    Ok(open)
+    Ok(())
 }
 
 fn main(rt: HostRuntime) -> io::Result<()> {
     let mut input = rt.stdin();
     let mut out = BufWriter::new(rt.alloc(), rt.stdout())?;
+    // `read` fills a buffer and tells how far: lines of any length go through it, and none is held whole
     let mut piece = [0; 8192];
-    let mut line = Gathered::new();
-    let mut open = false;
+    let mut open = None;
+    // until no more comes: nothing is counted, the range shows that the loop ends
     for _ in 0..u64::MAX {
         let count = input.read(&mut piece)?;
         if count == 0 {
             break;
         }
-        open = show_lines(&piece[0..count], open, &mut line, &mut out)?;
+        show_lines(&piece[..count], &mut open, &mut out)?;
         // a reader at the other end of a pipe waits for each piece
         out.flush()?;
     }
     // a last line may end without a line feed
-    if open {
+    if let Some(line) = open {
         print_answer(line.show(), &mut out)?;
     }
     out.flush()

@@ -3,12 +3,15 @@
 #![tactic(auto)]
 
 use anyhow::anyhow;
-use cells::cells::Cells;
 use cells::count::CellCount;
+use cells::store::CellStore;
 use frames::octets::LONGEST;
+use frames::refusal::Refusal;
 use lines::line::Line;
-use ring::ring::Ring;
+use lines::queue::Queue;
+use lines::store::Store;
 use ring::size::RingSize;
+use ring::store::RingStore;
 use std::env;
 use std::rt::Env;
 
@@ -17,8 +20,8 @@ const WAITING: u32 = 8;
 
 // The first octet of what is taken, 0 where nothing is.
 fn taken<L: Line>(line: &mut L, out: &mut [u8]) -> u32 {
-    match line.take(out) {
-        Ok(Some(_)) if out.len() > 0 => u32::from(out[0]),
+    match (line.take(out), out.first()) {
+        (Ok(Some(_)), Some(first)) => u32::from(*first),
         _ => 0,
     }
 }
@@ -26,12 +29,13 @@ fn taken<L: Line>(line: &mut L, out: &mut [u8]) -> u32 {
 // Puts the frame as often as it is told, each time with another first octet, and takes the oldest while enough others wait.
 fn through<L: Line>(line: &mut L, frame: &mut [u8], out: &mut [u8], count: u32) -> u32 {
     let mut sum: u32 = 0;
-    for i in 0..count {
-        if frame.len() > 0 {
-            frame[0] = (i % 256) as u8;
+    // the serial number is what is sent: nothing is indexed
+    for serial in 0..count {
+        if let Some(first) = frame.first_mut() {
+            *first = (serial % 256) as u8;
         }
         let _ = line.put(frame);
-        if i >= WAITING {
+        if serial >= WAITING {
             sum = sum.wrapping_add(taken(line, out));
         }
     }
@@ -42,22 +46,15 @@ fn through<L: Line>(line: &mut L, frame: &mut [u8], out: &mut [u8], count: u32) 
 fn sum_on<L: Line>(line: &mut L, length: usize, count: u32) -> u32 {
     let mut frame = [0; LONGEST];
     let mut out = [0; LONGEST];
-    if length > LONGEST {
-        return 0;
-    }
-    through(line, &mut frame[0..length], &mut out, count)
-}
-
-fn in_cells(length: usize, count: u32) -> u32 {
-    match CellCount::new(32) {
-        Ok(cells) => sum_on(&mut Cells::new(cells), length, count),
-        Err(_) => 0,
+    match frame.get_mut(..length) {
+        Some(frame) => through(line, frame, &mut out, count),
+        None => 0,
     }
 }
 
-fn in_ring(length: usize, count: u32) -> u32 {
-    match RingSize::new(65536) {
-        Ok(octets) => sum_on(&mut Ring::new(octets), length, count),
+fn sum_in<S: Store + Drop>(size: Result<S::Size, Refusal>, length: usize, count: u32) -> u32 {
+    match size {
+        Ok(size) => sum_on(&mut Queue::<S>::new(size), length, count),
         Err(_) => 0,
     }
 }
@@ -71,9 +68,9 @@ fn run(rt: &(impl Env + Print + Alloc)) -> anyhow::Result<()> {
     let length = length.parse::<usize>()?;
     let count = count.parse::<u32>()?;
     let sum = if name.as_str() == "cells" {
-        in_cells(length, count)
+        sum_in::<CellStore>(CellCount::new(32), length, count)
     } else {
-        in_ring(length, count)
+        sum_in::<RingStore>(RingSize::new(65536), length, count)
     };
     println!(rt; "{name}: {count} frames of {length} octets, sum {sum}")?;
     Ok(())

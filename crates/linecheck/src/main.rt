@@ -7,11 +7,16 @@ ghost use Rattle.frames.specs.Frame.{longest};
 
 use cells::cells::Cells;
 use cells::count::CellCount;
+use cells::store::CellStore;
 use frames::octets::LONGEST;
+use frames::refusal::Refusal;
 use lines::line::Line;
-use lines::sender::{Sender, Sending};
+use lines::queue::Queue;
+use lines::sender::Sender;
+use lines::store::Store;
 use ring::ring::Ring;
 use ring::size::RingSize;
+use ring::store::RingStore;
 use std::io;
 
 // Beyond every frame, so that the rest of a buffer is seen too.
@@ -43,12 +48,7 @@ fn draw(octets: &mut [u8], serial: usize) {
 }
 
 fn all_stale(octets: &[u8]) -> bool {
-    for octet in octets {
-        if *octet != STALE {
-            return false;
-        }
-    }
-    true
+    octets.iter().all(|octet| *octet == STALE)
 }
 
 // Whether the buffer holds the frame with this serial number, and is untouched behind it.
@@ -56,11 +56,14 @@ fn is_frame(out: &[u8], length: usize, serial: usize) -> bool {
     let n = length_of(serial);
     let mut octets = [0; LONGEST];
     draw(&mut octets, serial);
-    length == n && n <= out.len() && out[0..n] == octets[0..n] && all_stale(&out[n..])
+    match out.split_at_checked(n) {
+        Some((frame, rest)) => length == n && frame == &octets[..n] && all_stale(rest),
+        None => false,
+    }
 }
 
 fn is_sent<L: Line>(sender: &mut Sender<L>, frame: &[u8]) -> bool {
-    matches!(sender.send(frame), Sending::HandedOver(_))
+    sender.send(frame).is_ok()
 }
 
 // Whether the line refuses a frame of this length, and says so when it is asked.
@@ -68,49 +71,46 @@ fn refuses<L: Line>(sender: &mut Sender<L>, frame: &[u8]) -> bool {
     !sender.takes_length(frame.len()) && !is_sent(sender, frame)
 }
 
+// Whether the line says that it takes the frame with this serial number, and takes it.
+fn takes<L: Line>(sender: &mut Sender<L>, serial: usize) -> bool {
+    let mut octets = [0; LONGEST];
+    draw(&mut octets, serial);
+    let n = length_of(serial);
+    sender.takes_length(n) && is_sent(sender, &octets[..n])
+}
+
 // Puts frames from this serial number on until one is refused, and tells the number of that one.
 fn fill<L: Line>(sender: &mut Sender<L>, from: usize) -> usize {
-    let mut serial = from;
-    for _ in 0..1000u32 {
-        let mut octets = [0; LONGEST];
-        draw(&mut octets, serial);
-        let n = length_of(serial);
-        if !sender.takes_length(n) || !is_sent(sender, &octets[0..n]) {
-            return serial;
-        }
-        serial = serial.wrapping_add(1);
+    let until = from.saturating_add(1000);
+    (from..until)
+        .find(|serial| !takes(sender, *serial))
+        .unwrap_or(until)
+}
+
+// Whether the line gives the frame with this serial number.
+fn gives<L: Line>(sender: &mut Sender<L>, serial: usize) -> bool {
+    let mut out = [STALE; BUFFER];
+    match sender.take(&mut out) {
+        Ok(Some(n)) => is_frame(&out, n, serial),
+        _ => false,
     }
-    serial
 }
 
 // Takes the frames with these serial numbers, and tells how many were not as they were put.
-fn drain<L: Line>(sender: &mut Sender<L>, from: usize, until: usize) -> u32 {
-    let mut wrong: u32 = 0;
-    for serial in from..until {
-        let mut out = [STALE; BUFFER];
-        let right = match sender.take(&mut out) {
-            Ok(Some(n)) => is_frame(&out, n, serial),
-            _ => false,
-        };
-        if !right {
-            wrong = wrong.saturating_add(1);
-        }
-    }
-    wrong
+fn drain<L: Line>(sender: &mut Sender<L>, from: usize, until: usize) -> usize {
+    (from..until)
+        .filter(|serial| !gives(sender, *serial))
+        .count()
 }
 
 // Whether nothing waits any more, and a buffer that is too small is refused.
 fn is_empty<L: Line>(sender: &mut Sender<L>) -> bool {
     let mut short = [STALE; LONGEST - 1];
-    let refused = match sender.take(&mut short) {
-        Err(refusal) => refusal.number() == 117,
-        Ok(_) => false,
-    };
     let mut out = [STALE; BUFFER];
-    match sender.take(&mut out) {
-        Ok(None) => refused && all_stale(&out) && all_stale(&short),
-        _ => false,
-    }
+    matches!(sender.take(&mut short), Err(Refusal::BufferTooSmall))
+        && matches!(sender.take(&mut out), Ok(None))
+        && all_stale(&out)
+        && all_stale(&short)
 }
 
 // All waiting frames but one where there are more, so that each round begins at another place of the store.
@@ -123,25 +123,23 @@ fn up_to(oldest: usize, next: usize) -> usize {
 }
 
 // Tells how many frames went through, and how many steps were wrong.
-fn rounds<L: Line>(sender: &mut Sender<L>) -> (usize, u32) {
+fn rounds<L: Line>(sender: &mut Sender<L>) -> (usize, usize) {
     let long = [0; LONGEST + 1];
     let mut oldest = 0;
     let mut next = 0;
-    let mut wrong: u32 = 0;
+    let mut wrong: usize = 0;
+    // rounds are repeated, and nothing is indexed
     for _ in 0..9u32 {
         next = fill(sender, next);
-        if !refuses(sender, &long) || !refuses(sender, &long[0..0]) {
-            wrong = wrong.saturating_add(1);
-        }
+        let refused = refuses(sender, &long) && refuses(sender, &[]);
         let last = up_to(oldest, next);
-        wrong = wrong.saturating_add(drain(sender, oldest, last));
+        wrong = wrong
+            .saturating_add(usize::from(!refused))
+            .saturating_add(drain(sender, oldest, last));
         oldest = last;
     }
     wrong = wrong.saturating_add(drain(sender, oldest, next));
-    if !is_empty(sender) {
-        wrong = wrong.saturating_add(1);
-    }
-    (next, wrong)
+    (next, wrong.saturating_add(usize::from(!is_empty(sender))))
 }
 
 // Puts a frame on both lines where both take it.
@@ -149,10 +147,7 @@ fn put_both<A: Line, B: Line>(a: &mut Sender<A>, b: &mut Sender<B>, serial: usiz
     let mut octets = [0; LONGEST];
     draw(&mut octets, serial);
     let n = length_of(serial);
-    if !a.takes_length(n) || !b.takes_length(n) {
-        return false;
-    }
-    is_sent(a, &octets[0..n]) && is_sent(b, &octets[0..n])
+    a.takes_length(n) && b.takes_length(n) && is_sent(a, &octets[..n]) && is_sent(b, &octets[..n])
 }
 
 // Whether both lines give the frame with this serial number, and leave the same in their buffers.
@@ -160,80 +155,66 @@ fn take_both<A: Line, B: Line>(a: &mut Sender<A>, b: &mut Sender<B>, serial: usi
     let mut first = [STALE; BUFFER];
     let mut second = [STALE; BUFFER];
     match (a.take(&mut first), b.take(&mut second)) {
-        (Ok(Some(m)), Ok(Some(n))) => m == n
-            && first[0..BUFFER] == second[0..BUFFER]
-            && is_frame(&first, n, serial),
+        (Ok(Some(m)), Ok(Some(n))) => m == n && first == second && is_frame(&first, n, serial),
         _ => false,
     }
 }
 
 // Tells how many frames went through both lines, and how many differed.
-fn side_by_side<A: Line, B: Line>(a: &mut Sender<A>, b: &mut Sender<B>) -> (usize, u32) {
+fn side_by_side<A: Line, B: Line>(a: &mut Sender<A>, b: &mut Sender<B>) -> (usize, usize) {
     let mut taken: usize = 0;
     let mut next: usize = 0;
-    let mut differ: u32 = 0;
-    for step in 0..2000u32 {
+    let mut differ: usize = 0;
+    // steps are repeated, and nothing is indexed
+    for _ in 0..2000u32 {
         if put_both(a, b, next) {
             next = next.wrapping_add(1);
         } else {
-            if !take_both(a, b, taken) {
-                differ = differ.saturating_add(1);
-            }
+            differ = differ.saturating_add(usize::from(!take_both(a, b, taken)));
             taken = taken.wrapping_add(1);
         }
     }
-    for serial in taken..next {
-        if !take_both(a, b, serial) {
-            differ = differ.saturating_add(1);
-        }
-    }
-    (next, differ)
+    let rest = (taken..next)
+        .filter(|serial| !take_both(a, b, *serial))
+        .count();
+    (next, differ.saturating_add(rest))
 }
 
-fn show_cells(rt: &impl Print, cells: usize) -> io::Result<()> {
-    match CellCount::new(cells) {
-        Err(refusal) => println!(rt; "{cells} cells: no {}", refusal.number()),
-        Ok(count) => {
-            let (through, wrong) = rounds(&mut Sender::new(Cells::new(count)));
-            println!(rt; "{cells} cells: {through} frames, {wrong} wrong")
-        }
-    }
-}
-
-fn show_ring(rt: &impl Print, octets: usize) -> io::Result<()> {
-    match RingSize::new(octets) {
-        Err(refusal) => println!(rt; "{octets} octets: no {}", refusal.number()),
+fn show<S: Store + Drop>(
+    rt: &impl Print,
+    places: usize,
+    kind: &str,
+    size: Result<S::Size, Refusal>,
+) -> io::Result<()> {
+    match size {
+        Err(refusal) => println!(rt; "{places} {kind}: no {refusal}"),
         Ok(size) => {
-            let (through, wrong) = rounds(&mut Sender::new(Ring::new(size)));
-            println!(rt; "{octets} octets: {through} frames, {wrong} wrong")
+            let (through, wrong) = rounds(&mut Sender::new(Queue::<S>::new(size)));
+            println!(rt; "{places} {kind}: {through} frames, {wrong} wrong")
         }
     }
 }
 
 fn show_both(rt: &impl Print, cells: usize, octets: usize) -> io::Result<()> {
-    if let Ok(count) = CellCount::new(cells) {
-        if let Ok(size) = RingSize::new(octets) {
-            let (through, differ) = side_by_side(
-                &mut Sender::new(Cells::new(count)),
-                &mut Sender::new(Ring::new(size)),
-            );
-            return println!(rt;
-                "{cells} cells beside {octets} octets: {through} frames, {differ} differ"
-            );
-        }
-    }
-    println!(rt; "{cells} cells beside {octets} octets: not made")
+    let (Ok(count), Ok(size)) = (CellCount::new(cells), RingSize::new(octets)) else {
+        return println!(rt; "{cells} cells beside {octets} octets: not made");
+    };
+    let (through, differ) = side_by_side(
+        &mut Sender::new(Cells::new(count)),
+        &mut Sender::new(Ring::new(size)),
+    );
+    println!(rt; "{cells} cells beside {octets} octets: {through} frames, {differ} differ")
 }
 
 fn main(rt: HostRuntime) -> io::Result<()> {
     for cells in [0, 1, 2, 5, 32, 33] {
-        show_cells(&rt, cells)?;
+        show::<CellStore>(&rt, cells, "cells", CellCount::new(cells))?;
     }
     for octets in [513, 514, 515, 1300, 65536, 65537] {
-        show_ring(&rt, octets)?;
+        show::<RingStore>(&rt, octets, "octets", RingSize::new(octets))?;
     }
-    show_both(&rt, 1, 65536)?;
-    show_both(&rt, 5, 1300)?;
-    show_both(&rt, 32, 514)?;
-    show_both(&rt, 32, 65536)
+    for (cells, octets) in [(1, 65536), (5, 1300), (32, 514), (32, 65536)] {
+        show_both(&rt, cells, octets)?;
+    }
+    Ok(())
 }

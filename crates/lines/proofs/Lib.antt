@@ -1,3 +1,4 @@
+pub mod Queues
 pub mod Told
 pub mod Turns
 pub mod Whole

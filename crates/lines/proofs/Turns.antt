@@ -46,13 +46,13 @@ window_push d xs size head n v h l k =
     ∙ ap (λ w. w ++ get_or (set xs (place size head n) v) (place size head n) d ∷ []) (window-set d xs size n n head v h (omega arith) l)
     ∙ ap (λ x. window d xs size head n ++ x ∷ []) (get_or-set_same xs (place size head n) v d (omega arith))
 
-pub length-window : {X : Type 0} (d : X) (xs : List X) (size head n : ℕ) → length (window d xs size head n) ≡ n
-length-window d xs size head zero = refl
-length-window d xs size head (suc n) = ap suc (length-window d xs size (place size head 1) n)
+pub length_window : {X : Type 0} (d : X) (xs : List X) (size head n : ℕ) → length (window d xs size head n) ≡ n
+length_window d xs size head zero = refl
+length_window d xs size head (suc n) = ap suc (length_window d xs size (place size head 1) n)
 
 -- the oldest item, and the window behind it
-pub window-cut : {X : Type 0} (d : X) (xs : List X) (size head n : ℕ) → 0 < n → window d xs size head n ≡ get_or xs head d ∷ window d xs size (place size head 1) (n - 1)
-window-cut d xs size head n some =
+pub window_cut : {X : Type 0} (d : X) (xs : List X) (size head n : ℕ) → 0 < n → window d xs size head n ≡ get_or xs head d ∷ window d xs size (place size head 1) (n - 1)
+window_cut d xs size head n some =
     let one : n ≡ suc (n - 1) = omega arith in
     ap (window d xs size head) one
 
@@ -71,10 +71,10 @@ pub window_puts : {X : Type 0} (d : X) (xs ys w : List X) (size head n : ℕ) �
     → window d ys size head (n + length w) ≡ window d xs size head n ++ w
 window_puts d xs ys w size head n h l old new =
     ext_get_or d (window d ys size head (n + length w)) (window d xs size head n ++ w)
-    (length-window d ys size head (n + length w) ∙ sym (length-append (window d xs size head n) w ∙ ap (λ m. m + length w) (length-window d xs size head n)))
+    (length_window d ys size head (n + length w) ∙ sym (length-append (window d xs size head n) w ∙ ap (λ m. m + length w) (length_window d xs size head n)))
     (λ i g.
-    let long = length-window d ys size head (n + length w) in
-    let short = length-window d xs size head n in
+    let long = length_window d ys size head (n + length w) in
+    let short = length_window d xs size head n in
     get_or-window d ys size head (n + length w) i h l (omega arith)
     ∙ ⊎_elim
     (λ below. old i below ∙ sym (get_or-window d xs size head n i h (omega arith) below) ∙ sym (get_or_append_left (window d xs size head n) w d i (omega arith)))
@@ -106,6 +106,6 @@ pub window_is : {X : Type 0} (d : X) (xs w : List X) (size head : ℕ) → head 
     → ((k : ℕ) → k < length w → get_or w k d ≡ get_or xs (place size head k) d)
     → window d xs size head (length w) ≡ w
 window_is d xs w size head h l same =
-    let long = length-window d xs size head (length w) in
+    let long = length_window d xs size head (length w) in
     ext_get_or d (window d xs size head (length w)) w long
     (λ k i. get_or-window d xs size head (length w) k h l (omega arith) ∙ sym (same k (omega arith)))

@@ -1,5 +1,5 @@
 -- What a line does, over the meaning of its state: the frames that wait, oldest first, and the lengths that it takes now.
-use Rattle.std.specs.Prelude.{◌≡◌, ℕ, ◌≤◌, Bool, true, false, ◌&&◌, List, [], ◌∷◌, ◌++◌, length, drop, Some, None, Ok, Err, Option, Result, nat_le}
+use Rattle.std.specs.Prelude.{◌≡◌, ℕ, ◌≤◌, ◌<◌, Bool, true, false, ◌&&◌, List, [], ◌∷◌, ◌++◌, length, drop, Some, None, Ok, Err, Option, Result, nat_le, slice_index_or}
 use Rattle.frames.specs.declared.refusal.Refusal.{Refusal}
 use Rattle.frames.specs.declared.refusal.Refusal.TheVariants.{LineDeclines, BufferTooSmall}
 use Rattle.frames.specs.Frame.{longest}
@@ -10,6 +10,10 @@ fits n = nat_le 1 n && nat_le n longest
 
 abbrev pub Framed : List ℕ → Type 0
 Framed f = (1 ≤ length f) × (length f ≤ longest)
+
+-- every frame of the list has a length that a frame can have
+abbrev pub EachFramed : List (List ℕ) → Type 0
+EachFramed fs = (k : ℕ) → k < length fs → Framed (slice_index_or fs k [])
 
 -- what reaches a line: the frame, where the line takes it
 abbrev pub sends : Bool → List ℕ → List (List ℕ)

@@ -3,5 +3,8 @@
 #![tactic(auto)]
 
 pub mod line;
+pub mod queue;
 pub mod sender;
+pub mod size;
+pub mod store;
 pub mod turning;

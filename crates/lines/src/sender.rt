@@ -6,12 +6,8 @@ ghost use Rattle.lines.specs.Sent.{said, report, answer_of};
 use crate::line::Line;
 use frames::refusal::Refusal;
 
-// What became of a frame that was put, with its octets.
-#[derive(Drop)]
-pub enum Sending<'a> {
-    HandedOver(&'a [u8]),
-    Refused(&'a [u8]),
-}
+// What became of a frame that was put, with its octets: handed over, or refused.
+pub type Sending<'a> = Result<&'a [u8], &'a [u8]>;
 
 #[derive(Drop)]
 pub struct Sender<L: Line> {
@@ -20,14 +16,8 @@ pub struct Sender<L: Line> {
 
 impl<L: Line> Sender<L> {
     // Over any line, whatever waits on it: no run of puts and takes that begins here loses a frame, makes one up or changes their order.
+    #[tactic(auto, using(crate::proofs::Whole::conserves))]
     pub fn new(line: L) -> Sender<L>
-        ensures line { result.line ≡ line }
-        ensures runs { Conserves L.Line.waiting L.Line.takes result.line }
-    {
-        Sender::over(line)
-    }
-
-    fn over(line: L) -> Sender<L>
         ensures line { result.line ≡ line }
         ensures runs { Conserves L.Line.waiting L.Line.takes result.line }
     {
@@ -38,10 +28,7 @@ impl<L: Line> Sender<L> {
         ensures report { said result ≡ report (L.Line.takes self.old.line (length frame.now)) frame.now }
         ensures line { Step L.Line.waiting L.Line.takes self.old.line (put frame.now (answer_of result)) self.new.line }
     {
-        match self.line.put(frame) {
-            Ok(()) => Sending::HandedOver(frame),
-            Err(_) => Sending::Refused(frame),
-        }
+        self.line.put(frame).map(|()| frame).map_err(|_| frame)
     }
 
     pub fn takes_length(&self, length: usize) -> bool

@@ -1,14 +1,12 @@
 -- The links of a set as octets.
-use Rattle.std.specs.Prelude.{ℕ, ◌+◌, ◌*◌, ◌/◌, ◌%◌, Bool, false, cond, ◌||◌, List, [], ◌∷◌, ◌++◌, length, take, drop, Some, None, Option, ◌==◌, nat_lt}
+use Rattle.std.specs.Prelude.{ℕ, ◌+◌, ◌*◌, ◌/◌, ◌%◌, Bool, cond, List, [], ◌∷◌, ◌++◌, length, take, drop, Some, None, Option, ◌==◌, nat_lt}
+use Rattle.std.specs.List.{list_any}
 use Rattle.sets.specs.Rows.{Row}
-use Rattle.sets.specs.Closing.{Contents}
-use Rattle.link_building.specs.declared.payload.Payload.{Payload}
-use Rattle.link_building.specs.Written.{written}
+use Rattle.sets.specs.Contents.{Contents}
 
 -- whether a size needs two octets
 unfoldable pub wide : List ℕ → Bool
-wide [] = false
-wide (s ∷ ss) = nat_lt 255 s || wide ss
+wide ss = list_any (λ s. nat_lt 255 s) ss
 
 -- a size, of two octets where the combination is wide
 unfoldable pub size_octets : Bool → ℕ → List ℕ
@@ -38,6 +36,10 @@ unfoldable pub payload : ℕ → Bool → ℕ → Bool → List Row → List ℕ
 payload n ti type chain rs =
     (cond ti 16 0 + n * 2 + cond chain 1 0) ∷ (combinations rs ++ (cond ti (nibbles rs) [] ++ (0 ∷ 1 ∷ type * 16 ∷ [])))
 
+-- the same by what the rows of a link and the set's opening values say
+abbrev pub payload_of : Bool → Contents → List ℕ
+payload_of chain c = payload c.opening.subflows c.opening.timed c.opening.kind chain c.combinations
+
 -- some rows, from a place on
 abbrev pub part : ℕ → ℕ → List Row → List Row
 part from count rs = take count (drop from rs)
@@ -58,7 +60,6 @@ link_of k c = link k c.opening.subflows c.opening.timed c.opening.kind c.combina
 abbrev pub link_at : ℕ → Contents → Option (List ℕ)
 link_at k c = cond (nat_lt k (links_of c.combinations)) (Some (link_of k c)) None
 
--- what an answer of the code says
-abbrev pub as_octets : Option Payload → Option (List ℕ)
-as_octets None = None
-as_octets (Some p) = Some (written p)
+-- the part of a set that link k bears
+abbrev pub part_of : ℕ → Contents → Option Contents
+part_of k c = cond (nat_lt k (links_of c.combinations)) (Some (record { opening = c.opening; combinations = part (8 * k) 8 c.combinations })) None

@@ -1,57 +1,36 @@
 // The links of a closed set.
-ghost use Rattle.std.specs.Prelude.{◌≡◌, ◌<◌, ◌≤◌, length};
-ghost use Rattle.sets.specs.Rows.{rows};
-ghost use Rattle.sets.specs.Closing.{contents};
-ghost use Rattle.link_building.specs.Written.{written};
-ghost use Rattle.link_building.specs.Wire.{links_of, link_of, link_at, as_octets};
+ghost use Rattle.std.specs.Prelude.{◌≡◌, ◌≤◌};
+ghost use Rattle.link_building.specs.Wire.{links_of, link_at, part_of};
 
+use super::part::{MOST_ROWS, Part};
 use super::payload::Payload;
-use super::writing::write_payload;
 use sets::closed::Set;
-
-// The combinations of the set.
-fn count_of(set: &Set) -> u8
-    ensures is { result ≡ length (rows set.now.table) }
-    ensures some { 1 ≤ result }
-    ensures few { result ≤ 32 }
-{
-    set.table.count as u8
-}
 
 // How many links the set is sent in: eight combinations a link.
 pub fn link_count(set: &Set) -> u8
-    ensures is { result ≡ links_of (rows set.now.table) }
+    ensures is { result ≡ links_of set.now.combinations }
     ensures some { 1 ≤ result }
     ensures few { result ≤ 4 }
 {
-    (count_of(set) + 7) / 8
+    set.rows().len().div_ceil(MOST_ROWS) as u8
 }
 
-// The payload of a link that the set has.
-fn build(set: &Set, number: u8) -> Payload
-    requires { number < links_of (rows set.now.table) }
-    ensures { written result ≡ link_of number (contents set.now.table) }
+// The part of the set that a link bears, if the set is sent in so many.
+fn part_at(set: &Set, number: u8) -> Option<Part<'_>>
+    ensures { result ≡ part_of number set.now }
 {
-    let from = 8 * number as usize;
-    let total = set.table.count;
-    let mut payload = Payload {
-        cells: [0; 128],
-        count: 0,
-    };
-    if from + 8 < total {
-        write_payload(&mut payload, set, from, 8, true);
-    } else {
-        write_payload(&mut payload, set, from, total - from, false);
-    }
-    payload
+    let rows = set.rows().chunks(MOST_ROWS).nth(number as usize)?;
+    Some(Part {
+        opening: set.opening(),
+        rows,
+    })
 }
 
 // The payload of link `number`, counted from 0; none past the last.
 pub fn link_payload(set: &Set, number: u8) -> Option<Payload>
-    ensures { as_octets result ≡ link_at number (contents set.now.table) }
+    ensures { result ≡ link_at number set.now }
 {
-    if number >= link_count(set) {
-        return None;
-    }
-    Some(build(set, number))
+    let count = link_count(set);
+    let part = part_at(set, number)?;
+    Some(part.payload(number + 1 < count))
 }

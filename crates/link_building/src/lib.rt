@@ -3,6 +3,6 @@
 #![tactic(auto)]
 
 pub mod building;
-mod holding;
+mod part;
 pub mod payload;
 mod writing;

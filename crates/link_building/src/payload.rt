@@ -1,10 +1,42 @@
-// The payload of a link by value. Eight combinations of seven sizes and their IPTIs take 128 octets at most.
-ghost use Rattle.std.specs.Prelude.{◌≡◌, ◌≤◌, length};
+// The payload of a link by value: at most 128 octets. Eight combinations of seven sizes and their IPTIs take no more.
+ghost use Rattle.std.specs.Prelude.{◌≡◌, ℕ, ◌<◌, ◌≤◌, List, [], ◌∷◌, ◌++◌, length};
 
-#[derive(Clone, Copy)]
+use frames::row::Row;
+use std::marker::Model;
+
+pub(crate) const MOST_OCTETS: usize = 128;
+
+#[derive(Clone, Copy, PartialEq, Eq, Debug)]
 pub struct Payload {
-    pub(crate) cells: [u8; 128],
-    pub(crate) count: usize,
-    ghost whole: { length cells ≡ 128 },
-    ghost room: { count ≤ 128 },
+    row: Row<u8, MOST_OCTETS>,
+}
+
+impl Model for Payload {
+    ghost Value = { List ℕ };
+
+    ghost view = { λ p. p.row };
+
+    ghost inverse = { λ xs. record { row = xs } };
+}
+
+impl Payload {
+    pub(crate) fn new() -> Payload
+        ensures { result ≡ [] }
+    {
+        Payload { row: Row::new() }
+    }
+
+    pub fn as_slice(&self) -> &[u8]
+        ensures octets { result.now ≡ self.now }
+        ensures few { length result.now ≤ 128 }
+    {
+        self.row.as_slice()
+    }
+
+    pub(crate) fn push(&mut self, octet: u8)
+        requires { length self.old < MOST_OCTETS }
+        ensures { self.new ≡ self.old ++ octet ∷ [] }
+    {
+        self.row.push(octet).unwrap();
+    }
 }

@@ -4,7 +4,7 @@ use Rattle.frames.specs.declared.refusal.Refusal.{Refusal}
 use Rattle.frames.specs.declared.refusal.Refusal.TheVariants.{LinkTooLong, ValueRange}
 use Rattle.frames.specs.Frame.{longest}
 use Rattle.building.specs.Building.{question_frame}
-use Rattle.sets.specs.Closing.{Contents}
+use Rattle.sets.specs.Contents.{Contents}
 use Rattle.link_building.specs.Wire.{link, link_of, link_at}
 
 abbrev pub link_frame_of : ℕ → Contents → List ℕ

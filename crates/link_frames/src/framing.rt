@@ -1,8 +1,5 @@
 // A link of a closed set with its header and checksums.
 ghost use Rattle.std.specs.Prelude.{◌≡◌, ◌<◌, Ok};
-ghost use Rattle.frames.specs.Joined.{held};
-ghost use Rattle.sets.specs.Rows.{rows};
-ghost use Rattle.sets.specs.Closing.{contents};
 ghost use Rattle.link_building.specs.Wire.{links_of};
 ghost use Rattle.link_frames.specs.Frames.{link_frame, link_frame_of, Worked};
 
@@ -14,23 +11,15 @@ use frames::refusal::Refusal;
 use link_building::building::link_payload;
 use sets::closed::Set;
 
-// A link worked by hand, for `link_frame` to name: nothing is done here.
-fn worked()
-    ensures { Worked }
-{}
-
 // Link `number` of the set. One past the last is refused by 114; 104 where it is too long, which no link of a set is.
+#[tactic(auto, using(crate::proofs::Working::worked))]
 pub fn link_frame(set: &Set, number: Number) -> Result<Octets, Refusal>
-    ensures is { held result ≡ link_frame number.value (contents set.now.table) }
-    ensures sure { number.value < links_of (rows set.now.table) → held result ≡ Ok (link_frame_of number.value (contents set.now.table)) }
+    ensures is { result ≡ link_frame number.value set.now }
+    ensures sure { number.value < links_of set.now.combinations → result ≡ Ok (link_frame_of number.value set.now) }
     ensures worked { Worked }
 {
-    worked();
-    let Some(payload) = link_payload(set, number.value) else {
-        return Err(Refusal::ValueRange);
-    };
-    match build_question(Procedure::Initialisation, number, payload.as_slice()) {
-        Ok(frame) => Ok(frame),
-        Err(_) => Err(Refusal::LinkTooLong),
-    }
+    let payload = link_payload(set, number.value).ok_or(Refusal::ValueRange)?;
+    build_question(Procedure::Initialisation, number, payload.as_slice()).or(Err(
+        Refusal::LinkTooLong,
+    ))
 }

@@ -5,7 +5,8 @@ use Rattle.std.proofs.lemmas.List.{length_push}
 use Rattle.frames.specs.declared.refusal.Refusal.{Refusal}
 use Rattle.sets.specs.Rows.{Row}
 use Rattle.sets.specs.Drafts.{admitted}
-use Rattle.link_reading.specs.Adding.{add_all}
+use Rattle.std.specs.Result.{IsErr}
+use Rattle.link_reading.specs.Adding.{add_all, kept}
 
 pub all_more : (n : ℕ) (ti : Bool) (held : List Row) (r : Row) (rs : List Row) → admitted n ti held r ≡ Ok tt → add_all n ti held (r ∷ rs) ≡ add_all n ti (held ++ r ∷ []) rs
 unfolding add_all
@@ -19,15 +20,20 @@ pub all_none : (n : ℕ) (ti : Bool) (held : List Row) → add_all n ti held [] 
 unfolding add_all
 all_none n ti held = refl
 
-pub turn-refused : (n k : ℕ) (ti u : Bool) (held : List Row) (x r : Row) (rs : List Row) (e : Refusal) → k ≡ n → u ≡ ti → x ≡ r → Err e ≡ admitted k u held x → add_all n ti held (r ∷ rs) ≡ None
-turn-refused n k ti u held x r rs e a b d h =
-    let z : admitted n ti held r ≡ Err e = cc in
-    all_refused n ti held r rs e z
+-- the row in front is refused or added, by the opening values of the draft
+pub turn_refused : (n k : ℕ) (ti u : Bool) (held : List Row) (x : Row) (rs all : List Row) (e : Refusal) → k ≡ n → u ≡ ti → all ≡ x ∷ rs → Err e ≡ admitted k u held x → None ≡ add_all n ti held all
+turn_refused n k ti u held x rs all e a b d h =
+    let z : admitted n ti held x ≡ Err e = cc in
+    sym (ap (add_all n ti held) d ∙ all_refused n ti held x rs e z)
 
-pub turn_added : (n k : ℕ) (ti u : Bool) (held more : List Row) (x r : Row) (rs : List Row) → k ≡ n → u ≡ ti → x ≡ r → Ok tt ≡ admitted k u held x → more ≡ held ++ x ∷ [] → add_all n ti held (r ∷ rs) ≡ add_all n ti more rs
-turn_added n k ti u held more x r rs a b d h e =
-    let z : admitted n ti held r ≡ Ok tt = cc in
-    all_more n ti held r rs z ∙ ap (λ xs. add_all n ti xs rs) (ap (λ y. held ++ y ∷ []) (sym d) ∙ sym e)
+pub turn_added : (n k : ℕ) (ti u : Bool) (held more : List Row) (x : Row) (rs all : List Row) → k ≡ n → u ≡ ti → all ≡ x ∷ rs → Ok tt ≡ admitted k u held x → more ≡ held ++ x ∷ [] → add_all n ti more rs ≡ add_all n ti held all
+turn_added n k ti u held more x rs all a b d h e =
+    let z : admitted n ti held x ≡ Ok tt = cc in
+    ap (λ xs. add_all n ti xs rs) e ∙ sym (ap (add_all n ti held) d ∙ all_more n ti held x rs z)
+
+pub refused_none : (x : Result Unit Refusal) (rs : List Row) → IsErr x → kept x rs ≡ None
+refused_none (Ok u) rs h = cc
+refused_none (Err e) rs h = refl
 
 -- adding makes rows longer
 length_step : (n : ℕ) (ti : Bool) (held : List Row) (r : Row) (rs xs : List Row) (x : Result Unit Refusal) → admitted n ti held r ≡ x → Some xs ≡ add_all n ti held (r ∷ rs)

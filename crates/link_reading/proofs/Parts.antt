@@ -1,71 +1,66 @@
--- Sizes and half octets, one by one.
+-- Sizes, one by one.
 -- Assumes nothing.
-use Rattle.std.proofs.Common.{◌≡◌, ℕ, zero, suc, ◌+◌, ◌-◌, ◌*◌, ◌/◌, ◌%◌, ◌<◌, Bool, true, false, cond, List, [], ◌∷◌, ◌++◌, length, get_or, take, drop, set, sym, refl, ap, ◌∙◌, add-zero, arith}
-use Rattle.std.proofs.lemmas.List.{get_or-drop, drop-drop, take_more_set, append_assoc, length-drop}
-use Rattle.std.proofs.lemmas.Nat.{div-add-mod', mod_below}
-use Rattle.link_reading.specs.Layout.{sizes_in, halves, width}
+use Rattle.std.proofs.Common.{◌≡◌, ℕ, zero, suc, ◌+◌, ◌-◌, ◌*◌, ◌<◌, ◌≤◌, min, Bool, true, false, cond, List, [], ◌∷◌, ◌++◌, length, get_or, sym, refl, ap, ◌∙◌, arith}
+use Rattle.std.proofs.lemmas.List.{append_assoc, append-nil, length-append, length_push}
+use Rattle.link_reading.specs.Layout.{sizes_in, width}
 
-pub sizes_in_more : (w : Bool) (n : ℕ) (os : List ℕ) (p s : ℕ) → 0 < n → s ≡ width 1 w
-    → sizes_in w n (drop p os) ≡ cond w (get_or os p 0 * 256 + get_or os (p + 1) 0) (get_or os p 0) ∷ sizes_in w (n - 1) (drop (p + s) os)
+-- a size that stands in front of the others
+sizes_first : (w : Bool) (n x : ℕ) (xs ys : List ℕ) → length xs ≡ width 1 w → x ≡ cond w (get_or xs 0 0 * 256 + get_or xs 1 0) (get_or xs 0 0) → sizes_in w (suc n) (xs ++ ys) ≡ x ∷ sizes_in w n ys
 unfolding sizes_in
-sizes_in_more w zero os p s h e = absurd (omega arith)
-sizes_in_more w (suc n) os p s h e =
-    let z : suc n - 1 ≡ n = omega arith in
-    let a : get_or (drop p os) 0 0 ≡ get_or os p 0 = get_or-drop p os 0 0 ∙ ap (λ k. get_or os k 0) (add-zero p) in
-    let b : get_or (drop p os) 1 0 ≡ get_or os (p + 1) 0 = get_or-drop p os 1 0 in
-    let d : drop (cond w 2 1) (drop p os) ≡ drop (p + s) os = drop-drop (cond w 2 1) p os ∙ ap (λ k. drop (p + k) os) (sym e) in
-    rw (z, a, b, d)
+sizes_first true n x [] ys l e = absurd (omega arith)
+sizes_first true n x (a ∷ []) ys l e = absurd (omega arith)
+sizes_first true n x (a ∷ (b ∷ [])) ys l e = ap (λ z. z ∷ sizes_in true n ys) (sym e)
+sizes_first true n x (a ∷ (b ∷ (c ∷ xs))) ys l e = absurd (omega arith)
+sizes_first false n x [] ys l e = absurd (omega arith)
+sizes_first false n x (a ∷ []) ys l e = ap (λ z. z ∷ sizes_in false n ys) (sym e)
+sizes_first false n x (a ∷ (b ∷ xs)) ys l e = absurd (omega arith)
 
-pub sizes_in_none : (w : Bool) (n : ℕ) (os : List ℕ) → n ≡ 0 → sizes_in w n os ≡ []
+width_less : (w : Bool) (k : ℕ) → width (k + 1) w ≡ width k w + width 1 w
+width_less true k = omega arith
+width_less false k = refl
+
+none_more : (w : Bool) (k : ℕ) → width k w ≡ 0 → k ≡ 0
+none_more true k h = omega arith
+none_more false k h = h
+
+-- a turn of the loop over sizes: `k` of `n` are read
+pub record Turned (w : Bool) (n : ℕ) (ss : List ℕ) (rest was : List ℕ) : Type 0 where
+  pub sizes : ss ++ sizes_in w (n - length ss) rest ≡ was
+  pub few : length ss ≤ n
+  pub left : length rest ≡ width (n - length ss) w
+
+more_left : (w : Bool) (k : ℕ) (whole : List ℕ) → 0 < length whole → length whole ≡ width k w → (m : ℕ) × (k ≡ m + 1)
+more_left true zero whole p h = absurd (omega arith)
+more_left false zero whole p h = absurd (omega arith)
+more_left w (suc m) whole p h = (m, omega arith)
+
+pub sizes_room : (w : Bool) (n : ℕ) (ss whole was : List ℕ) → Turned w n ss whole was → 0 < length whole → n ≤ 7 → length ss < 7
+sizes_room w n ss whole was t p h = let m = more_left w (n - length ss) whole p t.left in omega (arith, m.1)
+
+pub sizes_turn : (w : Bool) (n x : ℕ) (whole xs ys ss out was : List ℕ) → Turned w n ss whole was → whole ≡ xs ++ ys → length xs ≡ min (width 1 w) (length whole) → 0 < length whole
+    → x ≡ cond w (get_or xs 0 0 * 256 + get_or xs 1 0) (get_or xs 0 0) → out ≡ ss ++ x ∷ [] → Turned w n out ys was
+sizes_turn w n x whole xs ys ss out was t e l p f g =
+    let k = n - length ss in
+    let m = more_left w k whole p t.left in
+    let q : k ≡ suc m.0 = omega arith in
+    let d = width_less w m.0 in
+    let v : width k w ≡ width m.0 w + width 1 w = ap (λ j. width j w) m.1 ∙ d in
+    let tl = t.left in
+    let lx : length xs ≡ width 1 w = omega arith in
+    let la = ap length e ∙ length-append xs ys in
+    let lo = ap length g ∙ length_push ss x in
+    let r : n - length out ≡ m.0 = omega arith in
+    let s = sizes_first w m.0 x xs ys lx f in
+    let a = append_assoc ss (x ∷ []) (sizes_in w m.0 ys) in
+    let z : sizes_in w k whole ≡ x ∷ sizes_in w m.0 ys = ap (λ j. sizes_in w j whole) q ∙ ap (sizes_in w (suc m.0)) e ∙ s in
+    record {
+      sizes = ap (λ j. out ++ sizes_in w j ys) r ∙ ap (λ xs. xs ++ sizes_in w m.0 ys) g ∙ a ∙ sym (ap (λ xs. ss ++ xs) z) ∙ t.sizes;
+      few = omega arith;
+      left = omega (arith, ap (λ j. width j w) r);
+    }
+
+pub sizes_done : (w : Bool) (n : ℕ) (ss rest was : List ℕ) → Turned w n ss rest was → length rest ≡ 0 → ss ≡ was
 unfolding sizes_in
-sizes_in_none w zero os h = refl
-sizes_in_none w (suc n) os h = absurd (omega arith)
-
--- a turn of the loop over sizes
-pub sizes-turn : (w : Bool) (n k : ℕ) (os ss : List ℕ) (p s x : ℕ) → k < n → k < length ss → s ≡ width 1 w → x ≡ cond w (get_or os p 0 * 256 + get_or os (p + 1) 0) (get_or os p 0)
-    → take (k + 1) (set ss k x) ++ sizes_in w (n - (k + 1)) (drop (p + s) os) ≡ take k ss ++ sizes_in w (n - k) (drop p os)
-sizes-turn w n k os ss p s x h l e f =
-    let m = sizes_in_more w (n - k) os p s (omega arith) e in
-    let z : n - k - 1 ≡ n - (k + 1) = omega arith in
-    let q = ap (λ j. sizes_in w j (drop (p + s) os)) z in
-    let t = take_more_set ss k x l in
-    let a = append_assoc (take k ss) (x ∷ []) (sizes_in w (n - (k + 1)) (drop (p + s) os)) in
-    cc
-
-pub width_more : (k : ℕ) (w : Bool) → width (k + 1) w ≡ width k w + width 1 w
-width_more k true = omega arith
-width_more k false = refl
-
--- the half octets of an octet
-even : (os : List ℕ) (q i : ℕ) → i ≡ q * 2 → q < length os → get_or (halves os) i 0 ≡ get_or os q 0 / 16
-unfolding halves
-even [] q i e h = absurd (omega arith)
-even (o ∷ os) zero zero e h = refl
-even (o ∷ os) zero (suc i) e h = absurd (omega arith)
-even (o ∷ os) (suc q) zero e h = absurd (omega arith)
-even (o ∷ os) (suc q) (suc zero) e h = absurd (omega arith)
-even (o ∷ os) (suc q) (suc (suc i)) e h = even os q i (omega arith) (omega arith)
-
-odd : (os : List ℕ) (q i : ℕ) → i ≡ q * 2 + 1 → q < length os → get_or (halves os) i 0 ≡ get_or os q 0 % 16
-unfolding halves
-odd [] q i e h = absurd (omega arith)
-odd (o ∷ os) zero zero e h = absurd (omega arith)
-odd (o ∷ os) zero (suc zero) e h = refl
-odd (o ∷ os) zero (suc (suc i)) e h = absurd (omega arith)
-odd (o ∷ os) (suc q) zero e h = absurd (omega arith)
-odd (o ∷ os) (suc q) (suc zero) e h = absurd (omega arith)
-odd (o ∷ os) (suc q) (suc (suc i)) e h = odd os q i (omega arith) (omega arith)
-
-pub half_high : (os : List ℕ) (p i : ℕ) → i % 2 ≡ 0 → p + i / 2 < length os → get_or os (p + i / 2) 0 / 16 ≡ get_or (halves (drop p os)) i 0
-half_high os p i e h =
-    let d = div-add-mod' i 2 in
-    let l = length-drop p os in
-    sym (even (drop p os) (i / 2) i (omega arith) (omega arith) ∙ ap (λ k. k / 16) (get_or-drop p os (i / 2) 0))
-
-pub half_low : (os : List ℕ) (p i : ℕ) → (i % 2 ≡ 0 → ⊥) → p + i / 2 < length os → get_or os (p + i / 2) 0 % 16 ≡ get_or (halves (drop p os)) i 0
-half_low os p i e h =
-    let d = div-add-mod' i 2 in
-    let l = length-drop p os in
-    let m = mod_below i 2 (omega arith) in
-    let one : i % 2 ≡ 1 = omega arith in
-    sym (odd (drop p os) (i / 2) i (omega arith) (omega arith) ∙ ap (λ k. k % 16) (get_or-drop p os (i / 2) 0))
+sizes_done w n ss rest was t h =
+    let k = none_more w (n - length ss) (sym t.left ∙ h) in
+    sym (append-nil ss) ∙ sym (ap (λ j. ss ++ sizes_in w j rest) k) ∙ t.sizes

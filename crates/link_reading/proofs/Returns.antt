@@ -1,7 +1,7 @@
 -- The links of a closed set are read back.
 -- Assumes nothing.
-use Rattle.std.proofs.Common.{◌≡◌, ℕ, zero, suc, ◌+◌, ◌-◌, ◌*◌, ◌/◌, ◌<◌, ◌≤◌, Bool, true, false, cond, not, ◌&&◌, ltb, leb, ◌⊎◌, List, [], ◌∷◌, ◌++◌, length, get_or, take, drop, Some, Ok, sym, refl, ap, ◌∙◌, inl, inr, add-zero, one-add, arith}
-use Rattle.std.proofs.lemmas.List.{append_assoc, length-append, length-take, length-drop, drop_at, get_or-append-add, take_all}
+use Rattle.std.proofs.Common.{◌≡◌, ℕ, zero, suc, ◌+◌, ◌-◌, ◌*◌, ◌/◌, ◌<◌, ◌≤◌, Bool, true, false, cond, not, ◌&&◌, ltb, leb, ◌⊎◌, List, [], ◌∷◌, ◌++◌, length, take, drop, Some, Ok, sym, refl, ap, ◌∙◌, inl, inr, add-zero, one-add, arith}
+use Rattle.std.proofs.lemmas.List.{append_assoc, length-append, length-take, length-drop, drop_at, take_rest, take_all}
 use Rattle.std.proofs.lemmas.Bool.{le-ltb, eq-eqb, ne_eqb}
 use Rattle.std.proofs.lemmas.Bool.Decides.{nat_tests}
 use Rattle.sets.specs.Rows.{Row, sound, free, Sound}
@@ -10,7 +10,8 @@ use Rattle.link_reading.specs.declared.fields.Fields.{Fields}
 use Rattle.link_building.specs.Wire.{combination, combinations, nibbles, payload, part, link, links_of}
 use Rattle.link_reading.specs.Layout.{halves, halves_from, rows_in, rows_of, fields_of, subflows_of, timed_of, chain_of, ipti_octets}
 use Rattle.link_reading.specs.Adding.{add_all}
-use Rattle.link_reading.specs.Holding.{Links, follows, base, in_range, judged_by, judged}
+use Rattle.link_reading.specs.Links.{Links}
+use Rattle.link_reading.specs.Holding.{follows, base, in_range, judged_by, judged}
 use Rattle.link_reading.specs.Laws.{read_all, whole, ReadsBack}
 use Rattle.link_reading.proofs.Whole.{fields_full}
 use Rattle.link_reading.proofs.Backs.{Good, Halved, extent_back, rows_back, halves_back, nibbles-length}
@@ -81,13 +82,11 @@ fields_back n ti type ch rs sp h s g =
     let cl = combinations_long n rs g in
     let x = extent_back (length (C ++ t)) n rs t s (omega arith) g in
     let d : t ≡ drop (length C) (C ++ t) = sym (drop_at C t (length C) refl) in
-    let f = fields_full os (C ++ t) t n ti ch (length I) e (omega arith) refl d (opener_n n ti ch h) (opener_ti n ti ch h) (opener_ch n ti ch h) x (sym (iptis-length ti rs)) (omega arith) in
-    let a : get_or t (length I) 0 ≡ 0 = ap (λ k. get_or t k 0) (sym (add-zero (length I))) ∙ get_or-append-add I tail 0 0 in
-    let b : get_or t (length I + 1) 0 ≡ 1 = get_or-append-add I tail 1 0 in
-    let k : get_or t (length I + 2) 0 ≡ type * 16 = get_or-append-add I tail 2 0 in
+    let gt : tail ≡ drop (length I) t = sym (drop_at I tail (length I) refl) in
+    let f = fields_full os (C ++ t) t n ti ch (length I) e tail (omega arith) refl d (opener_n n ti ch h) (opener_ti n ti ch h) (opener_ch n ti ch h) x (sym (iptis-length ti rs)) gt (omega arith) in
     let q : type * 16 / 16 ≡ type = omega arith in
-    let o : length t - (length I + 3) ≡ length sp = omega arith in
-    ap fields_of (spaced n ti type ch rs sp) ∙ f ∙ rw (a, b, k, q, o)
+    let o : length (take (length tail - 3) (drop 3 tail)) ≡ length sp = ap length (take_rest tail 3) in
+    ap fields_of (spaced n ti type ch rs sp) ∙ f ∙ rw (q, o)
 
 halved : (n : ℕ) (ti : Bool) (rs : List Row) (rest : List ℕ) → sound n ti rs ≡ true → Halved rs (cond ti (halves (iptis ti rs ++ rest)) [])
 halved n true rs rest s = halves_back rs rest (timely n true rs s)

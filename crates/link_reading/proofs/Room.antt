@@ -1,17 +1,13 @@
 -- The octets that the rows of a payload take, and that they are there.
 -- Assumes nothing.
-use Rattle.std.proofs.Common.{◌≡◌, ℕ, zero, suc, ◌+◌, ◌-◌, ◌/◌, ◌%◌, ◌<◌, ◌≤◌, true, false, ltb, List, [], ◌∷◌, length, get_or, drop, Some, None, Option, refl, ap, ◌∙◌, ⊎_elim, add-zero, one-add, arith}
+use Rattle.std.proofs.Common.{◌≡◌, ℕ, zero, suc, ◌+◌, ◌-◌, ◌*◌, ◌/◌, ◌%◌, ◌<◌, ◌≤◌, Bool, true, false, ltb, List, [], ◌∷◌, length, get_or, take, drop, Some, None, Option, refl, ap, ◌∙◌, ⊎_elim, one-add, arith}
 use Rattle.std.proofs.lemmas.Bool.{cases_Bool, ltb-false}
-use Rattle.std.proofs.lemmas.List.{length-drop, get_or-drop, drop-drop}
+use Rattle.std.proofs.lemmas.List.{length-drop, drop-take, take_rest}
 use Rattle.std.proofs.lemmas.Nat.{mod_below}
+use Rattle.sets.specs.Rows.{Row, entered}
 use Rattle.link_reading.specs.declared.fields.Extent.{Extent}
 use Rattle.link_reading.specs.declared.fields.Fields.{Fields}
-use Rattle.link_reading.specs.Layout.{is_last, is_wide, width, onward, extent, sizes_in, rows_in, subflows_of, timed_of, ipti_octets, ending, fields_of}
-
--- the octets of so many combinations
-unfoldable pub taken : ℕ → ℕ → List ℕ → ℕ
-taken zero n os = 0
-taken (suc c) n os = 1 + width n (is_wide (get_or os 0 0)) + taken c n (drop (1 + width n (is_wide (get_or os 0 0))) os)
+use Rattle.link_reading.specs.Layout.{is_last, is_wide, width, onward, extent, sizes_in, rows_in, taken, subflows_of, timed_of, ipti_octets, ending, fields_of}
 
 onward_inv : (c k : ℕ) (x : Option Extent) (e : Extent) → onward c k x ≡ Some e → (y : Extent) × (x ≡ Some y) × (e ≡ record { count = c + y.count; octets = k + y.octets })
 onward_inv c k None e h = let z : ◌≡◌ {A = ℕ} 0 1 = cc in absurd (omega arith)
@@ -98,47 +94,76 @@ roomy (o ∷ os) f h =
     let s = sized (length os) n os v.0 v.1 in
     roomy_from o os v.0 f s v.2 v.3 v.4 v.5 v.6
 
--- the first of the rows that are left, and of their octets
-pub taken_more : (c n a w : ℕ) (os : List ℕ) → 0 < c → w ≡ width n (is_wide (get_or os a 0)) → taken c n (drop a os) ≡ 1 + w + taken (c - 1) n (drop (a + (1 + w)) os)
-taken_more zero n a w os h e = absurd (omega arith)
-taken_more (suc c) n a w os h e =
-    let p : suc c - 1 ≡ c = omega arith in
-    let g : get_or (drop a os) 0 0 ≡ get_or os a 0 = get_or-drop a os 0 0 ∙ ap (λ k. get_or os k 0) (add-zero a) in
-    let d : drop (1 + w) (drop a os) ≡ drop (a + (1 + w)) os = drop-drop (1 + w) a os in
-    taken-suc (suc c) c n (drop a os) refl ∙ rw (p, g, ← e, d)
+-- what of it its reader asks
+pub first_within : (os : List ℕ) (f : Fields) → fields_of os ≡ Some f → 1 ≤ length os
+first_within os f h = let r = roomy os f h in omega (arith, r.iptis)
 
-pub rows_in_more : (c n a i w : ℕ) (os hs : List ℕ) → 0 < c → w ≡ width n (is_wide (get_or os a 0))
-    → rows_in c n (drop a os) (drop i hs) ≡ record { rfci = get_or os a 0 % 64; ipti = get_or hs i 0; sizes = sizes_in (is_wide (get_or os a 0)) n (drop (a + 1) os); allowed = true } ∷ rows_in (c - 1) n (drop (a + (1 + w)) os) (drop (i + 1) hs)
-unfolding rows_in
-rows_in_more zero n a i w os hs h e = absurd (omega arith)
-rows_in_more (suc c) n a i w os hs h e =
+pub few_within : (os : List ℕ) (f : Fields) → fields_of os ≡ Some f → f.subflows ≤ 7
+few_within os f h = (roomy os f h).few
+
+pub place_within : (os : List ℕ) (f : Fields) → fields_of os ≡ Some f → f.place ≤ length os
+place_within os f h = let r = roomy os f h in omega (arith, r.iptis)
+
+pub rows_within : (os : List ℕ) (f : Fields) → fields_of os ≡ Some f → taken f.count f.subflows (drop 1 os) ≤ length (drop 1 os)
+rows_within os f h =
+    let r = roomy os f h in
+    let l = length-drop 1 os in
+    omega (arith, r.combinations, r.iptis)
+
+-- a turn of the loop over rows: the next one is there, and room for those behind it
+pub record NextThere (c n w : ℕ) (r : List ℕ) : Type 0 where
+  pub here : 1 + w ≤ length r
+  pub rest : taken (c - 1) n (drop (1 + w) r) ≤ length (drop (1 + w) r)
+
+pub turn : (c n w : ℕ) (r : List ℕ) → 0 < c → taken c n r ≤ length r → w ≡ width n (is_wide (get_or r 0 0)) → NextThere c n w r
+turn zero n w r h t e = absurd (omega arith)
+turn (suc c) n w r h t e =
     let p : suc c - 1 ≡ c = omega arith in
-    let g : get_or (drop a os) 0 0 ≡ get_or os a 0 = get_or-drop a os 0 0 ∙ ap (λ k. get_or os k 0) (add-zero a) in
-    let j : get_or (drop i hs) 0 0 ≡ get_or hs i 0 = get_or-drop i hs 0 0 ∙ ap (λ k. get_or hs k 0) (add-zero i) in
-    let d : drop (1 + w) (drop a os) ≡ drop (a + (1 + w)) os = drop-drop (1 + w) a os in
-    let s : drop 1 (drop a os) ≡ drop (a + 1) os = drop-drop 1 a os in
-    let t : drop 1 (drop i hs) ≡ drop (i + 1) hs = drop-drop 1 i hs in
-    rw (p, g, j, ← e, d, s, t)
+    let k = taken-suc (suc c) c n r refl in
+    let l = length-drop (1 + w) r in
+    let u : taken c n (drop (1 + width n (is_wide (get_or r 0 0))) r) ≡ taken (suc c - 1) n (drop (1 + w) r) = rw (p, e) in
+    record { here = omega arith; rest = omega arith }
+
+sizes_front : (w : Bool) (n k : ℕ) (os : List ℕ) → k ≡ width n w → k ≤ length os → sizes_in w n (take k os) ≡ sizes_in w n os
+unfolding sizes_in
+sizes_front w zero k os e l = refl
+sizes_front true (suc n) zero os e l = absurd (omega arith)
+sizes_front true (suc n) (suc zero) os e l = absurd (omega arith)
+sizes_front true (suc n) (suc (suc k)) [] e l = absurd (omega arith)
+sizes_front true (suc n) (suc (suc k)) (a ∷ []) e l = absurd (omega arith)
+sizes_front true (suc n) (suc (suc k)) (a ∷ (b ∷ os)) e l = ap (λ xs. (a * 256 + b) ∷ xs) (sizes_front true n k os (omega arith) (omega arith))
+sizes_front false (suc n) zero os e l = absurd (omega arith)
+sizes_front false (suc n) (suc k) [] e l = absurd (omega arith)
+sizes_front false (suc n) (suc k) (a ∷ os) e l = ap (λ xs. a ∷ xs) (sizes_front false n k os (omega arith) (omega arith))
+
+-- the row in front of the others, as it is read
+abbrev row_read : ℕ → ℕ → List ℕ → List ℕ → Row
+row_read n w r hs = record { rfci = get_or r 0 0 % 64; ipti = get_or hs 0 0; sizes = sizes_in (is_wide (get_or r 0 0)) n (drop 1 (take (1 + w) r)); allowed = true }
+
+rows_in_more : (c n w : ℕ) (r hs : List ℕ) → 0 < c → w ≡ width n (is_wide (get_or r 0 0)) → 1 + w ≤ length r
+    → rows_in c n r hs ≡ row_read n w r hs ∷ rows_in (c - 1) n (drop (1 + w) r) (drop 1 hs)
+unfolding rows_in
+rows_in_more zero n w r hs h e l = absurd (omega arith)
+rows_in_more (suc c) n w r hs h e l =
+    let p : suc c - 1 ≡ c = omega arith in
+    let d = length-drop 1 r in
+    let t : drop 1 (take (1 + w) r) ≡ take w (drop 1 r) = drop-take 1 w r in
+    let s : sizes_in (is_wide (get_or r 0 0)) n (drop 1 (take (1 + w) r)) ≡ sizes_in (is_wide (get_or r 0 0)) n (drop 1 r) = ap (sizes_in (is_wide (get_or r 0 0)) n) t ∙ sizes_front (is_wide (get_or r 0 0)) n w (drop 1 r) e (omega arith) in
+    rw (p, s, ← e)
+
+-- the rows that are left, by the one in front: what its octets say is what is added
+pub rows_next : (c n w p : ℕ) (wide : Bool) (r hs row ss : List ℕ) → 0 < c → taken c n r ≤ length r → wide ≡ is_wide (get_or r 0 0) → w ≡ width n wide → row ≡ take (1 + w) r
+    → ss ≡ sizes_in wide n (take (length row - 1) (drop 1 row)) → p ≡ get_or hs 0 0
+    → rows_in c n r hs ≡ entered (get_or r 0 0 % 64) p ss ∷ rows_in (c - 1) n (drop (1 + w) r) (drop 1 hs)
+rows_next c n w p wide r hs row ss h t e v f g k =
+    let z : w ≡ width n (is_wide (get_or r 0 0)) = v ∙ ap (width n) e in
+    let same : row_read n w r hs ≡ entered (get_or r 0 0 % 64) p ss = rw (g, k, take_rest row 1, f, e) in
+    rows_in_more c n w r hs h z (turn c n w r h t z).here ∙ ap (λ x. x ∷ rows_in (c - 1) n (drop (1 + w) r) (drop 1 hs)) same
 
 pub rows_in_none : (c n : ℕ) (os hs : List ℕ) → c ≡ 0 → rows_in c n os hs ≡ []
 unfolding rows_in
 rows_in_none zero n os hs h = refl
 rows_in_none (suc c) n os hs h = absurd (omega arith)
-
--- a turn of the loop over the rows of a payload: where the next stands, and that this one is there
-pub turn : (os : List ℕ) (f : Fields) (i a w : ℕ) → Roomy os f → i < f.count → a + taken (f.count - i) f.subflows (drop a os) ≡ f.place → w ≡ width f.subflows (is_wide (get_or os a 0))
-    → (a + (1 + w) + taken (f.count - (i + 1)) f.subflows (drop (a + (1 + w)) os) ≡ f.place) × (a + 1 + w ≤ f.place) × (f.place ≤ length os)
-turn os f i a w r h e v =
-    let t = taken_more (f.count - i) f.subflows a w os (omega arith) v in
-    let z : f.count - i - 1 ≡ f.count - (i + 1) = omega arith in
-    let u = ap (λ k. taken k f.subflows (drop (a + (1 + w)) os)) z in
-    let s = r.iptis in
-    (omega arith, omega arith, omega arith)
-
-pub half_there : (os : List ℕ) (f : Fields) (i : ℕ) → Roomy os f → i < f.count → f.timed ≡ true → f.place + i / 2 < length os
-half_there os f i r h t =
-    let s : f.place + (f.count + 1) / 2 + 3 ≤ length os = rw t at r.iptis in
-    omega arith
 
 pub rows_in-length : (c n : ℕ) (os hs : List ℕ) → length (rows_in c n os hs) ≡ c
 unfolding rows_in

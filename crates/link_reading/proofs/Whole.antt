@@ -1,6 +1,7 @@
 -- The fields of a payload, by its parts.
 -- Assumes nothing.
-use Rattle.std.proofs.Common.{◌≡◌, ℕ, ◌+◌, ◌-◌, ◌*◌, ◌/◌, ◌<◌, ◌≤◌, Bool, true, false, ltb, List, [], ◌∷◌, length, get_or, drop, Some, None, sym, refl, ap, ◌∙◌, arith}
+use Rattle.std.proofs.Common.{◌≡◌, ℕ, ◌+◌, ◌-◌, ◌*◌, ◌/◌, ◌<◌, ◌≤◌, Bool, true, false, ltb, List, [], ◌∷◌, length, get_or, take, drop, Some, None, sym, refl, ap, ◌∙◌, add-zero, arith}
+use Rattle.std.proofs.lemmas.List.{length-drop, get_or-drop, take_rest}
 use Rattle.std.proofs.lemmas.Bool.{lt-ltb, le-ltb}
 use Rattle.link_reading.specs.declared.fields.Extent.{Extent}
 use Rattle.link_reading.specs.Layout.{extent, subflows_of, timed_of, chain_of, ipti_octets, ending, fields_of}
@@ -28,14 +29,19 @@ fields_short (o ∷ os) r t n ti m e h er et en ei ex em l =
     let q : ltb (length t) (m + 3) ≡ true = lt-ltb (length t) (m + 3) l in
     ap (ending o os) x ∙ rw (k, d, q)
 
-pub fields_full : (os r t : List ℕ) (n : ℕ) (ti ch : Bool) (m : ℕ) (e : Extent) → 0 < length os → r ≡ drop 1 os → t ≡ drop e.octets r → n ≡ subflows_of (get_or os 0 0) → ti ≡ timed_of (get_or os 0 0) → ch ≡ chain_of (get_or os 0 0)
-    → extent (length r) n r ≡ Some e → m ≡ ipti_octets ti e.count → m + 3 ≤ length t
-    → fields_of os ≡ Some (record { subflows = n; timed = ti; chain = ch; count = e.count; place = 1 + e.octets; versions = get_or t m 0 * 256 + get_or t (m + 1) 0; kind = get_or t (m + 2) 0 / 16; over = length t - (m + 3) })
+pub fields_full : (os r t : List ℕ) (n : ℕ) (ti ch : Bool) (m : ℕ) (e : Extent) (g : List ℕ) → 0 < length os → r ≡ drop 1 os → t ≡ drop e.octets r → n ≡ subflows_of (get_or os 0 0) → ti ≡ timed_of (get_or os 0 0) → ch ≡ chain_of (get_or os 0 0)
+    → extent (length r) n r ≡ Some e → m ≡ ipti_octets ti e.count → g ≡ drop m t → 3 ≤ length g
+    → fields_of os ≡ Some (record { subflows = n; timed = ti; chain = ch; count = e.count; place = 1 + e.octets; versions = get_or g 0 0 * 256 + get_or g 1 0; kind = get_or g 2 0 / 16; over = length (take (length g - 3) (drop 3 g)) })
 unfolding fields_of ending
-fields_full [] r t n ti ch m e h er et en ei ec ex em l = absurd (omega arith)
-fields_full (o ∷ os) r t n ti ch m e h er et en ei ec ex em l =
+fields_full [] r t n ti ch m e g h er et en ei ec ex em eg l = absurd (omega arith)
+fields_full (o ∷ os) r t n ti ch m e g h er et en ei ec ex em eg l =
     let x : extent (length os) (subflows_of o) os ≡ Some e = rw (er, en) at ex in
     let d : drop e.octets os ≡ t = sym (et ∙ ap (drop e.octets) er) in
     let k : ipti_octets (timed_of o) e.count ≡ m = sym (em ∙ ap (λ b. ipti_octets b e.count) ei) in
-    let q : ltb (length t) (m + 3) ≡ false = le-ltb (length t) (m + 3) l in
-    ap (ending o os) x ∙ rw (k, d, q, en, ei, ec)
+    let lg : length g ≡ length t - m = ap length eg ∙ length-drop m t in
+    let q : ltb (length t) (m + 3) ≡ false = le-ltb (length t) (m + 3) (omega arith) in
+    let a : get_or g 0 0 ≡ get_or t m 0 = ap (λ xs. get_or xs 0 0) eg ∙ get_or-drop m t 0 0 ∙ ap (λ j. get_or t j 0) (add-zero m) in
+    let b : get_or g 1 0 ≡ get_or t (m + 1) 0 = ap (λ xs. get_or xs 1 0) eg ∙ get_or-drop m t 1 0 in
+    let c : get_or g 2 0 ≡ get_or t (m + 2) 0 = ap (λ xs. get_or xs 2 0) eg ∙ get_or-drop m t 2 0 in
+    let v : length (take (length g - 3) (drop 3 g)) ≡ length t - (m + 3) = ap length (take_rest g 3) ∙ length-drop 3 g ∙ omega arith in
+    ap (ending o os) x ∙ rw (k, d, q, en, ei, ec, a, b, c, v)

@@ -1,24 +1,13 @@
--- The links held, and what one more does.
-use Rattle.std.specs.Prelude.{ℕ, ◌+◌, ◌%◌, Bool, false, cond, not, ◌&&◌, ◌||◌, List, [], Some, None, Ok, Err, Option, Result, ◌==◌, nat_le, nat_lt}
+-- What one more link does to those held.
+use Rattle.std.specs.Prelude.{ℕ, ◌+◌, ◌%◌, Bool, cond, not, ◌&&◌, ◌||◌, List, [], Some, None, Ok, Err, Option, Result, ◌==◌, nat_le, nat_lt}
 use Rattle.frames.specs.declared.refusal.Refusal.{Refusal}
 use Rattle.frames.specs.declared.refusal.Refusal.TheVariants.{TooShort, UnexpectedValue, ModeVersion}
 use Rattle.sets.specs.Rows.{Row}
 use Rattle.sets.specs.Openings.{Values}
-use Rattle.sets.specs.Closing.{Contents, contents}
 use Rattle.link_reading.specs.declared.fields.Fields.{Fields}
-use Rattle.link_reading.specs.declared.held.Held.{Held}
+use Rattle.link_reading.specs.Links.{Links}
 use Rattle.link_reading.specs.Layout.{fields_of, rows_of}
 use Rattle.link_reading.specs.Adding.{add_all}
-
--- the links held: what they said, how many they are, and whether the last is among them
-pub record Links : Type 0 where
-  pub contents : Contents
-  pub versions : ℕ
-  pub links : ℕ
-  pub complete : Bool
-
-abbrev pub said : Held → Links
-said h = record { contents = contents h.table; versions = h.versions; links = h.links; complete = h.complete }
 
 abbrev pub same : Bool → Bool → Bool
 same a b = cond a b (not b)
@@ -80,7 +69,3 @@ answer (Err e) = Err e
 abbrev pub after : {A : Type 0} → A → Result A Refusal → A
 after x (Ok y) = y
 after x (Err e) = x
-
--- no link yet
-abbrev pub nothing : Links
-nothing = record { contents = record { opening = record { subflows = 1; timed = false; kind = 0 }; combinations = [] }; versions = 0; links = 0; complete = false }

@@ -3,7 +3,8 @@ use Rattle.std.specs.Prelude.{◌≡◌, ℕ, zero, suc, ◌+◌, ◌≤◌, Boo
 use Rattle.frames.specs.declared.refusal.Refusal.{Refusal}
 use Rattle.sets.specs.Rows.{Row, free, Sound}
 use Rattle.link_building.specs.Wire.{link, links_of}
-use Rattle.link_reading.specs.Holding.{Links, judged}
+use Rattle.link_reading.specs.Links.{Links}
+use Rattle.link_reading.specs.Holding.{judged}
 
 -- so many links read one after the other, from link k on; a refusal ends it
 unfoldable pub read_all : ℕ → ℕ → (ℕ → List ℕ) → Links → Result Links Refusal

@@ -48,6 +48,11 @@ unfoldable pub rows_in : ℕ → ℕ → List ℕ → List ℕ → List Row
 rows_in zero n os hs = []
 rows_in (suc c) n os hs = row_in n os (slice_index hs 0) ∷ rows_in c n (drop (1 + width n (is_wide (slice_index os 0))) os) (drop 1 hs)
 
+-- the octets of so many combinations
+unfoldable pub taken : ℕ → ℕ → List ℕ → ℕ
+taken zero n os = 0
+taken (suc c) n os = 1 + width n (is_wide (slice_index os 0)) + taken c n (drop (1 + width n (is_wide (slice_index os 0))) os)
+
 abbrev pub subflows_of : ℕ → ℕ
 subflows_of o = o / 2 % 8
 
@@ -84,9 +89,13 @@ unfoldable pub fields_of : List ℕ → Option Fields
 fields_of [] = None
 fields_of (o ∷ os) = ending o os (extent (length os) (subflows_of o) os)
 
+-- the half octets of IPTIs, if there are any
+abbrev pub halves_if : Bool → List ℕ → List ℕ
+halves_if ti os = cond ti (halves os) []
+
 -- its half octets of IPTIs
 abbrev pub halves_from : Bool → ℕ → List ℕ → List ℕ
-halves_from ti place os = cond ti (halves (drop place os)) []
+halves_from ti place os = halves_if ti (drop place os)
 
 -- its rows
 abbrev pub rows_of : Fields → List ℕ → List Row

@@ -1,4 +1,5 @@
 pub mod Layout
+pub mod Links
 pub mod Adding
 pub mod Holding
 pub mod Laws

@@ -8,6 +8,7 @@ pub struct Extent {
 }
 
 // The fields of a link but for its combinations: `place` is where the IPTIs begin, `over` counts the octets after the fields.
+// `kind` is the data PDU type as it stands on the wire, 0 to 15: one that there is no type for is refused only after a version that is not listed.
 #[derive(Clone, Copy)]
 pub struct Fields {
     pub subflows: u8,

@@ -1,18 +1,82 @@
 // The links of a set that were read, up to the last of them.
 ghost use Rattle.std.specs.Prelude.{◌≡◌, ◌≤◌, true, length, if◌then◌else◌};
-ghost use Rattle.sets.specs.Rows.{table_sound, table_free};
+ghost use Rattle.sets.specs.Rows.{sound, free};
 
-use sets::table::Table;
+use sets::combination::Combination;
+use sets::draft::Draft;
+use sets::opening::Opening;
+use std::marker::Model;
 
-#[derive(Clone, Copy)]
+// `draft` has the combinations of the links so far; one at least once the last link is read, so that it can be closed.
+// `links` counts them: it stays known once `complete`, so that an `Option` of the number awaited would say less.
+#[derive(Drop)]
 pub struct Held {
-    pub table: Table,
-    pub versions: u16,
-    pub links: u8,
-    pub complete: bool,
-    ghost whole: { length table.combinations ≡ 32 },
-    ghost room: { table.count ≤ 32 },
-    ghost sound: { table_sound table ≡ true },
-    ghost free: { table_free table ≡ true },
-    ghost some: { (if complete then 1 else 0) ≤ table.count },
+    pub(crate) draft: Draft,
+    pub(crate) versions: u16,
+    pub(crate) links: u8,
+    pub(crate) complete: bool,
+}
+
+impl Model for Held {
+    ghost use Rattle.std.specs.Prelude.{◌≤◌, length, if◌then◌else◌};
+    ghost use Rattle.link_reading.specs.Links.{Links};
+
+    ghost Value = { Links };
+
+    ghost view = { λ h. record { contents = h.draft; versions = h.versions; links = h.links; complete = h.complete } };
+
+    ghost invariant = { λ h. (if h.complete then 1 else 0) ≤ length h.draft.combinations };
+}
+
+impl Held {
+    // What the set is opened with, as link 0 says.
+    pub fn opening(&self) -> Opening
+        ensures { result ≡ self.now.contents.opening }
+    {
+        self.draft.opening()
+    }
+
+    // The combinations so far, the first one first.
+    pub fn rows(&self) -> &[Combination]
+        ensures rows { result.now ≡ self.now.contents.combinations }
+        ensures some { (if self.now.complete then 1 else 0) ≤ length self.now.contents.combinations }
+        ensures room { length self.now.contents.combinations ≤ 32 }
+        ensures sound { sound self.now.contents.opening.subflows self.now.contents.opening.timed self.now.contents.combinations ≡ true }
+        ensures free { free self.now.contents.combinations ≡ true }
+    {
+        self.draft.rows()
+    }
+
+    // The versions that they list, one bit each.
+    pub fn versions(&self) -> u16
+        ensures { result ≡ self.now.versions }
+    {
+        self.versions
+    }
+
+    // How many were read.
+    pub fn links(&self) -> u8
+        ensures { result ≡ self.now.links }
+    {
+        self.links
+    }
+
+    // Whether the last is among them.
+    pub fn is_complete(&self) -> bool
+        ensures { result ≡ self.now.complete }
+    {
+        self.complete
+    }
+
+    // The same links held once more.
+    pub fn copied(&self) -> Held
+        ensures { result ≡ self.now }
+    {
+        Held {
+            draft: self.draft.copied(),
+            versions: self.versions,
+            links: self.links,
+            complete: self.complete,
+        }
+    }
 }

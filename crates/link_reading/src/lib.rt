@@ -4,6 +4,7 @@
 
 mod admitting;
 pub mod fields;
+mod halves;
 pub mod held;
 mod reading;
 mod taking;

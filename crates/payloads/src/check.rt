@@ -1,8 +1,9 @@
 // What is checked before the fields of a payload are read.
-ghost use Rattle.std.specs.Prelude.{◌≡◌, ◌≤◌, length, Ok, OnOk};
+ghost use Rattle.std.specs.Prelude.{◌≡◌, ◌≤◌, length, Ok, OnOk, slice_index};
 ghost use Rattle.payloads.specs.Checks.{versioned, opened, within, summed};
 
 use checksum::payload_checksum;
+use frames::frame::{Question, UserData};
 use frames::refusal::Refusal;
 
 // Mode version 1 has 0 in the version field.
@@ -16,11 +17,11 @@ pub fn check_version(version: u8) -> Result<(), Refusal>
 }
 
 // A question of any procedure: the version, and then the checksum over the whole payload.
-pub fn check_question(version: u8, checksum: u16, payload: &[u8]) -> Result<(), Refusal>
-    ensures { result ≡ opened version checksum payload.now (Ok tt) }
+pub fn check_question(question: Question<'_>) -> Result<(), Refusal>
+    ensures { result ≡ opened question.entry.version question.entry.checksum question.entry.payload.now (Ok tt) }
 {
-    check_version(version)?;
-    if checksum != payload_checksum(payload) {
+    check_version(question.version)?;
+    if question.checksum != payload_checksum(question.payload) {
         return Err(Refusal::PayloadChecksum);
     }
     Ok(())
@@ -40,12 +41,23 @@ pub fn check_extent(payload: &[u8], fields: usize) -> Result<(), Refusal>
     Ok(())
 }
 
-// User data: the checksum over the whole payload, where the frame has one.
-pub fn check_user_data(checksum: Option<u16>, payload: &[u8]) -> Result<(), Refusal>
-    ensures { result ≡ summed checksum payload.now }
+// The octet of a payload whose fields take no more than one.
+pub(crate) fn only_octet(payload: &[u8]) -> Result<u8, Refusal>
+    ensures { result ≡ within 1 payload.now (Ok (slice_index payload.now 0)) }
 {
-    match checksum {
-        Some(sum) if sum != payload_checksum(payload) => Err(Refusal::PayloadChecksum),
+    let [octet, extension @ ..] = payload else {
+        return Err(Refusal::TooShort);
+    };
+    check_extent(extension, 0)?;
+    Ok(*octet)
+}
+
+// User data: the checksum over the whole payload, where the frame has one.
+pub fn check_user_data(user_data: UserData<'_>) -> Result<(), Refusal>
+    ensures { result ≡ summed user_data.entry.checksum user_data.entry.payload.now }
+{
+    match user_data.checksum {
+        Some(sum) if sum != payload_checksum(user_data.payload) => Err(Refusal::PayloadChecksum),
         _ => Ok(()),
     }
 }

@@ -2,7 +2,7 @@
 use frames::cause::Cause;
 use frames::distance::Distance;
 
-#[derive(Clone, Copy)]
+#[derive(Clone, Copy, PartialEq, Eq, Debug)]
 pub struct ErrorEvent {
     pub distance: Distance,
     pub cause: Cause,

@@ -1,17 +1,17 @@
 // The marks of a rate question.
-ghost use Rattle.std.specs.Prelude.{◌≡◌, ◌≤◌, length, take};
+ghost use Rattle.std.specs.Prelude.{◌≡◌, ◌≤◌, length};
 ghost use Rattle.frames.specs.Extent.{octets_for};
 ghost use Rattle.payloads.specs.Payloads.{marks_at};
 
+use frames::mask::{MOST_MARKS, RateMask};
+use std::array;
+
 // The first marks, eight to an octet, the first one highest; 1 bars.
-pub(crate) fn read_marks(count: usize, octets: &[u8]) -> [bool; 63]
-    requires few { count ≤ 63 }
+pub(crate) fn read_marks(count: usize, octets: &[u8]) -> RateMask
+    requires few { count ≤ MOST_MARKS }
     requires there { octets_for count ≤ length octets.now }
-    ensures { take count result ≡ marks_at count octets.now }
+    ensures { result ≡ marks_at count octets.now }
 {
-    let mut bars = [false; 63];
-    for k in 0..count {
-        bars[k] = (octets[k / 8] >> (7 - k % 8)) % 2 == 1;
-    }
-    bars
+    let bars = array::from_fn(|k| k < count && (octets[k / 8] >> (7 - k % 8)) % 2 == 1);
+    RateMask::new(count, bars).unwrap()
 }

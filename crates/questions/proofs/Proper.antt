@@ -1,48 +1,65 @@
 -- Every kind of question has what the exchange asks of one.
-use Rattle.std.proofs.Common.{◌≡◌, ℕ, ◌+◌, ◌%◌, ◌<◌, Bool, true, false, cond, ◌&&◌, eqb, ltb, List, refl, arith, ltb-true}
-use Rattle.sets.specs.Closing.{Contents}
+use Rattle.std.proofs.Common.{◌≡◌, ℕ, ◌+◌, ◌<◌, true, false, eqb, ltb, List, Some, None, Ok, Err, Option, Result, sym, refl, ap, arith, ltb-true, eqb-true}
+use Rattle.std.proofs.lemmas.Bool.{and_parts, cond_both}
+use Rattle.frames.specs.declared.refusal.Refusal.{Refusal}
+use Rattle.frames.specs.declared.procedure.Procedure.TheVariants.{Initialisation, RateControl, TimeAlignment}
+use Rattle.reports.specs.declared.ending.Kind.TheVariants.{Initialisation as Offer, RateControl as Rate, TimeAlignment as Alignment}
+use Rattle.reports.specs.declared.ending.Ending.TheVariants.{NoAnswer, Rejected, RateFailure, AlignmentFailure}
 use Rattle.link_building.specs.Wire.{links_of}
-use Rattle.reports.specs.declared.ending.Ending.TheVariants.{NoAnswer, Rejected}
-use Rattle.exchange.specs.Books.{completes}
-use Rattle.exchange.specs.declared.exchange.Reply.{Reply}
-use Rattle.exchange.specs.declared.exchange.Reply.TheVariants.{Ack, Nack, Erroneous}
-use Rattle.exchange.specs.Asking.{Proper, Fails}
-use Rattle.questions.specs.Answers.{alignment_of, alignment_leads, acceptance_of, acceptance_leads}
-use Rattle.questions.specs.Forms.{links_form, rate_form, alignment_form}
-use Rattle.exchange.proofs.Exchanging.{by_cond}
+use Rattle.exchange.specs.declared.answer.AckNack.{AckNack}
+use Rattle.exchange.specs.Answers.{told_by, cause_in}
+use Rattle.exchange.specs.Asked.{Proper, Fails}
+use Rattle.questions.specs.declared.answer.AlignmentAnswer.{AlignmentAnswer}
+use Rattle.questions.specs.declared.answer.AlignmentAnswer.TheVariants.{Aligned, NotSupported, NotPossible, Declined}
+use Rattle.questions.specs.Answering.{acceptance_leads, alignment_of, alignment_in, alignment_leads, alignment_cause}
+use Rattle.questions.specs.Kinds.{links_asked, links_frames, links_follow, rate_asked, rate_frames, alignment_asked, alignment_frames, alone}
 
 none_follows : (m : ℕ) → false ≡ true → m < 3
 none_follows m e = let z : ◌≡◌ {A = ℕ} 0 1 = cc in absurd (omega arith)
 
-accepting : (r : Reply) → Fails (acceptance_leads (acceptance_of r))
-accepting Ack = tt
-accepting (Nack c) = tt
-accepting (Erroneous e) = tt
+accepting : (o : Option ℕ) → Fails (acceptance_leads o)
+accepting None = tt
+accepting (Some c) = tt
 
-aligning : (r : Reply) → Fails (alignment_leads (alignment_of r))
-aligning Ack = tt
-aligning (Nack c) =
-    by_cond (λ x. Fails (alignment_leads x)) (eqb c 47) (λ _. refl)
-    (λ _. by_cond (λ x. Fails (alignment_leads x)) (eqb c 48) (λ _. refl) (λ _. tt))
-aligning (Erroneous e) = tt
+aligning : (a : AlignmentAnswer) → Fails (alignment_leads a)
+aligning Aligned = tt
+aligning NotSupported = refl
+aligning NotPossible = refl
+aligning (Declined c) = tt
 
-low : (m : ℕ) → m < 4 → 224 + m % 4 ≡ 224 + m
-low m h = omega arith
+pub rate_proper : Proper RateControl Rate rate_asked rate_frames alone RateFailure RateFailure acceptance_leads
+rate_proper = record { asked = λ q m. refl; coded = refl; few = λ q m e. none_follows m e; lapsing = refl; declining = refl; stopping = accepting }
 
-pub rate_proper : (marks : List Bool) → Proper (rate_form marks)
-rate_proper marks = record { headed = λ m h. (low m h, refl, omega arith); few = none_follows; failing = λ b. refl; stopping = accepting }
+pub alignment_proper : Proper TimeAlignment Alignment alignment_asked alignment_frames alone AlignmentFailure AlignmentFailure alignment_leads
+alignment_proper = record { asked = λ q m. refl; coded = refl; few = λ q m e. none_follows m e; lapsing = refl; declining = refl; stopping = aligning }
 
-pub alignment_proper : (octet : ℕ) → Proper (alignment_form octet)
-alignment_proper octet = record { headed = λ m h. (low m h, refl, omega arith); few = none_follows; failing = λ b. refl; stopping = aligning }
+pub links_proper : Proper Initialisation Offer links_asked links_frames links_follow NoAnswer Rejected acceptance_leads
+links_proper =
+    record {
+      asked = λ q m. refl;
+      coded = refl;
+      few = λ q m e. ltb-true m 3 (and_parts (ltb m 3) (ltb (m + 1) (links_of q.combinations)) e).0;
+      lapsing = refl;
+      declining = refl;
+      stopping = accepting;
+    }
 
-left : (p q : Bool) → p && q ≡ true → p ≡ true
-left true q e = refl
-left false q e = e
+told-same : {A : Type 0} (r : Result A Refusal) → told_by (λ x. x) r ≡ r
+told-same (Ok a) = refl
+told-same (Err e) = refl
 
-failed : (b : Bool) → completes (cond b NoAnswer Rejected) ≡ false
-failed true = refl
-failed false = refl
+pub cause_told : (sort : AckNack) (version : ℕ) (payload : List ℕ) → told_by (λ x. x) (cause_in sort version payload) ≡ cause_in sort version payload
+cause_told sort version payload = told-same (cause_in sort version payload)
 
-pub links_proper : (c : Contents) → Proper (links_form c)
-links_proper c =
-    record { headed = λ m h. (low m h, refl, omega arith); few = λ m e. ltb-true m 3 (left (ltb m 3) (ltb (m + 1) (links_of c.combinations)) e); failing = failed; stopping = accepting }
+kept_cause : (o : Option ℕ) → alignment_cause (alignment_of o) ≡ o
+kept_cause None = refl
+kept_cause (Some c) =
+    cond_both (eqb c 47) _ _ (λ a. alignment_cause a ≡ Some c) (λ e. ap Some (sym (eqb-true c 47 e)))
+    (λ _. cond_both (eqb c 48) _ _ (λ a. alignment_cause a ≡ Some c) (λ e. ap Some (sym (eqb-true c 48 e))) (λ _. refl))
+
+told-aligned : (r : Result (Option ℕ) Refusal) → told_by alignment_cause (told_by alignment_of r) ≡ r
+told-aligned (Ok o) = ap Ok (kept_cause o)
+told-aligned (Err e) = refl
+
+pub alignment_told : (sort : AckNack) (version : ℕ) (payload : List ℕ) → told_by alignment_cause (alignment_in sort version payload) ≡ cause_in sort version payload
+alignment_told sort version payload = told-aligned (cause_in sort version payload)

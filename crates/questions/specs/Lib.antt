@@ -1,2 +1,2 @@
-pub mod Answers
-pub mod Forms
+pub mod Answering
+pub mod Kinds

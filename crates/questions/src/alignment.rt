@@ -1,45 +1,83 @@
 // An alignment question: by how much the other end is to send later or earlier.
+ghost use Rattle.std.specs.Prelude.{◌≡◌};
+ghost use Rattle.frames.specs.declared.procedure.Procedure.TheVariants.{TimeAlignment as Asking};
 ghost use Rattle.frames.specs.Values.{octet_of};
-ghost use Rattle.questions.specs.Answers.{alignment_of, alignment_leads};
-ghost use Rattle.questions.specs.Forms.{alignment_form};
+ghost use Rattle.reports.specs.declared.ending.Kind.TheVariants.{TimeAlignment};
+ghost use Rattle.reports.specs.declared.ending.Ending.TheVariants.{AlignmentFailure};
+ghost use Rattle.questions.specs.Answering.{alignment_in, alignment_leads, alignment_cause};
+ghost use Rattle.questions.specs.Kinds.{alignment_asked, alignment_frames, alone};
 ghost use Rattle.std.proofs.Common.{rules};
 
 use crate::answer::AlignmentAnswer;
 use building::question::build_alignment;
-use exchange::exchange::{Reply, Turn};
+use exchange::answer::{AckNack, Turn, read_cause};
 use exchange::inquiry::Inquiry;
+use frames::frame::Answer;
 use frames::number::Number;
 use frames::octets::Octets;
+use frames::procedure::Procedure;
+use frames::refusal::Refusal;
 use frames::shift::Shift;
 use reports::ending::{Ending, Kind};
+use std::marker::Model;
 
-#[derive(Clone, Copy)]
+// It is known by the octet that asks for the shift.
+#[derive(Drop)]
 pub struct AlignmentQuestion {
-    pub shift: Shift,
+    shift: Shift,
+}
+
+impl Model for AlignmentQuestion {
+    ghost use Rattle.std.specs.Prelude.{ℕ};
+    ghost use Rattle.frames.specs.Values.{octet_of};
+
+    ghost Value = { ℕ };
+
+    ghost view = { λ q. octet_of q.shift };
+}
+
+impl AlignmentQuestion {
+    pub fn new(shift: Shift) -> AlignmentQuestion
+        ensures { result ≡ octet_of shift }
+    {
+        AlignmentQuestion { shift }
+    }
 }
 
 impl Inquiry for AlignmentQuestion {
-    const PROCEDURE: u8 = 2;
+    const PROCEDURE: Procedure = Procedure::TimeAlignment;
+
+    const KIND: Kind = Kind::TimeAlignment;
+
+    const UNANSWERED: Ending = Ending::AlignmentFailure;
+
+    const DECLINED: Ending = Ending::AlignmentFailure;
 
     type Answer = AlignmentAnswer;
 
-    ghost form = { λ q. alignment_form (octet_of q.shift) };
+    ghost PROCEDURE = { Asking };
 
-    ghost reads = { alignment_of };
+    ghost KIND = { TimeAlignment };
+
+    ghost UNANSWERED = { AlignmentFailure };
+
+    ghost DECLINED = { AlignmentFailure };
+
+    ghost asks = { alignment_asked };
+
+    ghost frames = { alignment_frames };
+
+    ghost follows = { alone };
+
+    ghost reads = { alignment_in };
 
     ghost turns = { alignment_leads };
 
-    ghost judged = { Prim.search rules };
+    ghost causes = { alignment_cause };
 
     ghost proper = { Prim.search rules };
 
-    fn kind(&self) -> Kind {
-        Kind::TimeAlignment
-    }
-
-    fn code(&self) -> u8 {
-        Self::PROCEDURE
-    }
+    ghost told = { Prim.search rules };
 
     fn frame(&self, number: u8) -> Octets {
         build_alignment(Number { value: number % 4 }, self.shift)
@@ -49,15 +87,15 @@ impl Inquiry for AlignmentQuestion {
         false
     }
 
-    fn read(reply: Reply) -> AlignmentAnswer {
-        AlignmentAnswer::of_reply(reply)
+    fn read(sort: AckNack, answer: Answer<'_>) -> Result<AlignmentAnswer, Refusal> {
+        Ok(AlignmentAnswer::from(read_cause(sort, answer)?))
     }
 
     fn turn(answer: AlignmentAnswer) -> Turn {
         answer.turn()
     }
 
-    fn failure(&self, ticked: bool) -> Ending {
-        Ending::AlignmentFailure
+    fn cause(answer: AlignmentAnswer) -> Option<u8> {
+        answer.cause()
     }
 }

@@ -4,7 +4,5 @@
 
 pub mod alignment;
 pub mod answer;
-mod answering;
-mod fitting;
 pub mod links;
 pub mod rate;

@@ -1,62 +1,116 @@
 // A set that is offered: its links, one after the other.
 ghost use Rattle.std.specs.Prelude.{◌≡◌, ◌%◌, ◌≤◌, length};
-ghost use Rattle.frames.specs.Frame.{octets_of};
+ghost use Rattle.frames.specs.declared.procedure.Procedure.TheVariants.{Initialisation as Asking};
+ghost use Rattle.reports.specs.declared.ending.Kind.TheVariants.{Initialisation};
+ghost use Rattle.reports.specs.declared.ending.Ending.TheVariants.{NoAnswer, Rejected};
 ghost use Rattle.building.specs.Building.{question_frame};
-ghost use Rattle.sets.specs.Closing.{contents};
-ghost use Rattle.questions.specs.Answers.{acceptance_of, acceptance_leads};
-ghost use Rattle.questions.specs.Forms.{links_form};
+ghost use Rattle.exchange.specs.Answers.{cause_in};
+ghost use Rattle.questions.specs.Answering.{acceptance_leads};
+ghost use Rattle.questions.specs.Kinds.{links_asked, links_frames, links_follow, link_length, links_fit};
 ghost use Rattle.std.proofs.Common.{rules};
 
-use crate::answer::Acceptance;
+use crate::answer::accept;
 use building::question::build_question;
-use exchange::exchange::{Reply, Turn};
+use exchange::answer::{AckNack, Turn, read_cause};
 use exchange::inquiry::Inquiry;
+use frames::frame::Answer;
 use frames::number::Number;
-use frames::octets::Octets;
+use frames::octets::{LONGEST, Octets};
 use frames::procedure::Procedure;
+use frames::refusal::Refusal;
 use link_building::building::{link_count, link_payload};
 use reports::ending::{Ending, Kind};
 use sets::closed::Set;
+use std::marker::Model;
 
-#[derive(Clone, Copy)]
+#[derive(Drop)]
 pub struct Links {
-    pub set: Set,
+    set: Set,
+}
+
+impl Model for Links {
+    ghost use Rattle.sets.specs.Contents.{Contents};
+
+    ghost Value = { Contents };
+
+    ghost view = { λ q. q.set };
+}
+
+impl Links {
+    pub fn new(set: Set) -> Links
+        ensures { result ≡ set }
+    {
+        Links { set }
+    }
+
+    pub fn set(&self) -> &Set
+        ensures { result.now ≡ self.now }
+    {
+        &self.set
+    }
+
+    // The octets of the frame of a link; past the last link, of a frame with no payload.
+    fn length(&self, number: u8) -> usize
+        ensures { result ≡ link_length number self.now }
+    {
+        match link_payload(&self.set, number) {
+            Some(payload) => 4 + payload.as_slice().len(),
+            None => 4,
+        }
+    }
+
+    // Whether every link fits a frame.
+    pub fn fit(&self) -> bool
+        ensures { result ≡ links_fit self.now }
+    {
+        (0..4u8).all(|number| self.length(number) <= LONGEST)
+    }
 }
 
 // The question with a link's payload, or with none.
 fn link_frame(number: u8, payload: &[u8]) -> Octets
     requires { length payload.now ≤ 128 }
-    ensures { octets_of result ≡ question_frame 0 (number % 4) payload.now }
+    ensures { result ≡ question_frame 0 (number % 4) payload.now }
 {
+    // a kind has a frame for every number, and a frame has two bits for its own
     let number = Number { value: number % 4 };
-    match build_question(Procedure::Initialisation, number, payload) {
-        Ok(frame) => frame,
-        Err(_) => unreachable(),
-    }
+    build_question(Links::PROCEDURE, number, payload).unwrap()
 }
 
 impl Inquiry for Links {
-    const PROCEDURE: u8 = 0;
+    const PROCEDURE: Procedure = Procedure::Initialisation;
 
-    type Answer = Acceptance;
+    const KIND: Kind = Kind::Initialisation;
 
-    ghost form = { λ q. links_form (contents q.set.table) };
+    const UNANSWERED: Ending = Ending::NoAnswer;
 
-    ghost reads = { acceptance_of };
+    const DECLINED: Ending = Ending::Rejected;
+
+    type Answer = Option<u8>;
+
+    ghost PROCEDURE = { Asking };
+
+    ghost KIND = { Initialisation };
+
+    ghost UNANSWERED = { NoAnswer };
+
+    ghost DECLINED = { Rejected };
+
+    ghost asks = { links_asked };
+
+    ghost frames = { links_frames };
+
+    ghost follows = { links_follow };
+
+    ghost reads = { cause_in };
 
     ghost turns = { acceptance_leads };
 
-    ghost judged = { Prim.search rules };
+    ghost causes = { λ cause. cause };
 
     ghost proper = { Prim.search rules };
 
-    fn kind(&self) -> Kind {
-        Kind::Initialisation
-    }
-
-    fn code(&self) -> u8 {
-        Self::PROCEDURE
-    }
+    ghost told = { Prim.search rules };
 
     fn frame(&self, number: u8) -> Octets {
         match link_payload(&self.set, number) {
@@ -69,19 +123,15 @@ impl Inquiry for Links {
         number < 3 && number + 1 < link_count(&self.set)
     }
 
-    fn read(reply: Reply) -> Acceptance {
-        Acceptance::of_reply(reply)
+    fn read(sort: AckNack, answer: Answer<'_>) -> Result<Option<u8>, Refusal> {
+        read_cause(sort, answer)
     }
 
-    fn turn(answer: Acceptance) -> Turn {
-        answer.turn()
+    fn turn(answer: Option<u8>) -> Turn {
+        accept(answer)
     }
 
-    fn failure(&self, ticked: bool) -> Ending {
-        if ticked {
-            Ending::NoAnswer
-        } else {
-            Ending::Rejected
-        }
+    fn cause(answer: Option<u8>) -> Option<u8> {
+        answer
     }
 }

@@ -1,45 +1,83 @@
 // A rate question: the marks of the combinations from RFCI 0 on.
-ghost use Rattle.frames.specs.Values.{marks_of};
-ghost use Rattle.questions.specs.Answers.{acceptance_of, acceptance_leads};
-ghost use Rattle.questions.specs.Forms.{rate_form};
+ghost use Rattle.std.specs.Prelude.{◌≡◌};
+ghost use Rattle.frames.specs.declared.procedure.Procedure.TheVariants.{RateControl as Asking};
+ghost use Rattle.reports.specs.declared.ending.Kind.TheVariants.{RateControl};
+ghost use Rattle.reports.specs.declared.ending.Ending.TheVariants.{RateFailure};
+ghost use Rattle.exchange.specs.Answers.{cause_in};
+ghost use Rattle.questions.specs.Answering.{acceptance_leads};
+ghost use Rattle.questions.specs.Kinds.{rate_asked, rate_frames, alone};
 ghost use Rattle.std.proofs.Common.{rules};
 
-use crate::answer::Acceptance;
+use crate::answer::accept;
 use building::rate::build_rate;
-use exchange::exchange::{Reply, Turn};
+use exchange::answer::{AckNack, Turn, read_cause};
 use exchange::inquiry::Inquiry;
+use frames::frame::Answer;
 use frames::mask::RateMask;
 use frames::number::Number;
 use frames::octets::Octets;
+use frames::procedure::Procedure;
+use frames::refusal::Refusal;
 use reports::ending::{Ending, Kind};
+use std::marker::Model;
 
-#[derive(Clone, Copy)]
+// Beside a time alignment it differs in its payload, in its endings and in the form of its answer, which is all that an impl of the trait says:
+// one struct for both would be a generic with the same members again.
+#[derive(Drop)]
 pub struct RateQuestion {
-    pub mask: RateMask,
+    mask: RateMask,
+}
+
+impl Model for RateQuestion {
+    ghost use Rattle.std.specs.Prelude.{Bool, List};
+
+    ghost Value = { List Bool };
+
+    ghost view = { λ q. q.mask };
+}
+
+impl RateQuestion {
+    pub fn new(mask: RateMask) -> RateQuestion
+        ensures { result ≡ mask }
+    {
+        RateQuestion { mask }
+    }
 }
 
 impl Inquiry for RateQuestion {
-    const PROCEDURE: u8 = 1;
+    const PROCEDURE: Procedure = Procedure::RateControl;
 
-    type Answer = Acceptance;
+    const KIND: Kind = Kind::RateControl;
 
-    ghost form = { λ q. rate_form (marks_of q.mask) };
+    const UNANSWERED: Ending = Ending::RateFailure;
 
-    ghost reads = { acceptance_of };
+    const DECLINED: Ending = Ending::RateFailure;
+
+    type Answer = Option<u8>;
+
+    ghost PROCEDURE = { Asking };
+
+    ghost KIND = { RateControl };
+
+    ghost UNANSWERED = { RateFailure };
+
+    ghost DECLINED = { RateFailure };
+
+    ghost asks = { rate_asked };
+
+    ghost frames = { rate_frames };
+
+    ghost follows = { alone };
+
+    ghost reads = { cause_in };
 
     ghost turns = { acceptance_leads };
 
-    ghost judged = { Prim.search rules };
+    ghost causes = { λ cause. cause };
 
     ghost proper = { Prim.search rules };
 
-    fn kind(&self) -> Kind {
-        Kind::RateControl
-    }
-
-    fn code(&self) -> u8 {
-        Self::PROCEDURE
-    }
+    ghost told = { Prim.search rules };
 
     fn frame(&self, number: u8) -> Octets {
         build_rate(Number { value: number % 4 }, &self.mask)
@@ -49,15 +87,15 @@ impl Inquiry for RateQuestion {
         false
     }
 
-    fn read(reply: Reply) -> Acceptance {
-        Acceptance::of_reply(reply)
+    fn read(sort: AckNack, answer: Answer<'_>) -> Result<Option<u8>, Refusal> {
+        read_cause(sort, answer)
     }
 
-    fn turn(answer: Acceptance) -> Turn {
-        answer.turn()
+    fn turn(answer: Option<u8>) -> Turn {
+        accept(answer)
     }
 
-    fn failure(&self, ticked: bool) -> Ending {
-        Ending::RateFailure
+    fn cause(answer: Option<u8>) -> Option<u8> {
+        answer
     }
 }

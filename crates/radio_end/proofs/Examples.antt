@@ -1,18 +1,19 @@
 -- Ledgers worked by hand, and a run that there is.
 use Rattle.std.proofs.Common.{◌≡◌, ℕ, true, false, List, [], ◌∷◌, Some, None, Ok, refl, arith}
-use Rattle.frames.specs.declared.number.Number.{Number}
 use Rattle.sets.specs.Rows.{Row}
-use Rattle.sets.specs.Closing.{Contents}
-use Rattle.set_in_force.specs.Places.{places_from, item}
+use Rattle.sets.specs.Contents.{Contents}
+use Rattle.set_in_force.specs.Places.{places_from}
 use Rattle.reports.specs.declared.ending.Kind.TheVariants.{Initialisation, RateControl}
 use Rattle.reports.specs.declared.ending.Ending.TheVariants.{Done, Overtaken}
-use Rattle.reports.specs.Said.{Happening, began, over, delivered, handed, refused}
+use Rattle.reports.specs.declared.happening.Happening.{Happening}
+use Rattle.reports.specs.declared.happening.Happening.TheVariants.{Started, Ended, HandedOver, Refused}
+use Rattle.reports.specs.declared.happening.Happening.TheVariants.{Delivered as Brought}
 use Rattle.building.specs.Building.{error_frame}
 use Rattle.exchange.specs.declared.limits.Limits.{Limits}
 use Rattle.bearer.specs.declared.settings.Settings.{Settings}
 use Rattle.bearer.specs.declared.settings.Numbering.TheVariants.{Counted}
 use Rattle.radio_end.specs.declared.received.Received.TheVariants.{Delivered, Ack}
-use Rattle.radio_end.specs.declared.state.RadioEnd.{RadioEnd}
+use Rattle.radio_end.specs.Radio.{Radio, On}
 use Rattle.radio_end.specs.Runs.{Call, start, report, receive, tick, take, Run, none, then}
 use Rattle.radio_end.specs.Ledger.{books, sets, Fair, taken, handed_over}
 
@@ -24,15 +25,15 @@ abbrev set : Contents
 set = record { opening = record { subflows = 2; timed = false; kind = 1 }; combinations = row ∷ [] }
 
 abbrev brought : ℕ → ℕ → List Happening
-brought rfci second = delivered (record { rfci = rfci; fqc = 0; gap = 0; place = 3; subflows = record { first = 0; bits = 10 } ∷ record { first = second; bits = 6 } ∷ [] }) ∷ []
+brought rfci second = Brought (record { rfci = rfci; fqc = 0; gap = 0; place = 3; subflows = record { first = 0; bits = 10 } ∷ record { first = second; bits = 6 } ∷ [] }) ∷ []
 
 -- link 0 is handed over, refused after two ticks when it is repeated, and acknowledged
 abbrev begun : List Call
 begun =
-    receive (228 ∷ 0 ∷ []) (Ok Ack) (over Initialisation Done ∷ [])
-    ∷ tick (refused (224 ∷ 0 ∷ []) ∷ [])
+    receive (228 ∷ 0 ∷ []) (Ok Ack) (Ended Initialisation Done ∷ [])
+    ∷ tick (Refused (224 ∷ 0 ∷ []) ∷ [])
     ∷ tick []
-    ∷ start set (Ok tt) (over RateControl Overtaken ∷ began Initialisation ∷ handed (224 ∷ 0 ∷ []) ∷ [])
+    ∷ start set (Ok tt) (Ended RateControl Overtaken ∷ Started Initialisation ∷ HandedOver (224 ∷ 0 ∷ []) ∷ [])
     ∷ []
 
 abbrev run : List Call
@@ -52,7 +53,7 @@ moved_on : (taken run ≡ (224 ∷ 0 ∷ []) ∷ []) × (handed_over run ≡ (22
 moved_on = (refl, refl)
 
 fair : Fair run
-unfolding item places_from
+unfolding places_from
 fair = ((((((tt, tt), tt), tt), tt), (record { index = 0; row = row; there = refl; rfci = refl; subflows = refl }, tt)), tt)
 
 -- before its initialisation is named as done, nothing may be delivered
@@ -63,20 +64,19 @@ unfair h = h.1
 limits : Limits
 limits = record { ticks = 3; repeats = 1; some = omega arith; most = omega arith; few = omega arith }
 
-zero : Number
-zero = record { value = 0; below = omega arith }
-
-one : Number
-one = record { value = 1; below = omega arith }
-
 abbrev settings : Settings
 settings = record { initialisation = limits; rate = limits; alignment = limits; numbering = Counted; keep_damaged = false; mark = 0 }
 
-abbrev with : Number → List (List ℕ) → RadioEnd (List (List ℕ))
-with events line = record { state = record { bearer = record { settings = settings; events = events; traffic = None }; links = None; rate = None; alignment = None; rates = zero; alignments = zero }; line = line }
+abbrev with : (events : ℕ) → List (List ℕ) → On Radio (List (List ℕ))
+with events line = record { state = record { bearing = record { settings = settings; events = events; force = None }; links = None; rate = None; alignment = None; rates = 0; alignments = 0 }; line = line }
 
-there_is : Run {L = List (List ℕ)} (λ l. l) (λ l n. true) (with zero []) (tick [] ∷ report 5 (Ok tt) (handed (error_frame 0 1 5) ∷ []) ∷ []) (with one (error_frame 0 1 5 ∷ []))
-unfolding zero one limits
+there_is : Run {L = List (List ℕ)} (λ l. l) (λ l n. true) (with 0 []) (tick [] ∷ report 5 (Ok tt) (HandedOver (error_frame 0 1 5) ∷ []) ∷ []) (with 1 (error_frame 0 1 5 ∷ []))
+unfolding limits
 there_is =
-    then {e' = with one (error_frame 0 1 5 ∷ [])} (then none (record { next = refl; line = refl; says = refl; answer = refl }))
-    (record { between = with one (error_frame 0 1 5 ∷ []); first = record { next = refl; line = refl }; second = record { next = refl; line = refl }; says = refl })
+    then {e' = with 1 (error_frame 0 1 5 ∷ [])} (then none (record { next = refl; answer = refl; line = refl; says = refl }))
+    (record {
+      between = with 1 (error_frame 0 1 5 ∷ []);
+      said = [];
+      first = record { next = refl; answer = refl; line = refl; says = refl };
+      second = record { next = refl; answer = refl; line = refl; says = refl };
+    })

@@ -1,9 +1,7 @@
 pub mod Starting
-pub mod Objecting
-pub mod Flowing
 pub mod Going
 pub mod Requesting
 pub mod Hearing
 pub mod Passing
 pub mod Running
-pub mod Examples
+mod Examples

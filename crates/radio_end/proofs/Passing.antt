@@ -1,130 +1,115 @@
 -- What a tick does, for the ledger.
-use Rattle.std.proofs.Common.{◌≡◌, ℕ, Bool, false, ◌||◌, List, [], ◌∷◌, ◌++◌, Some, None, Option, sym, refl, ◌∙◌, subst, ap₂, append-nil}
-use Rattle.sets.specs.Closing.{Contents}
-use Rattle.reports.specs.declared.ending.Kind.{Kind}
+use Rattle.std.proofs.Common.{◌≡◌, ℕ, ◌≤◌, Bool, true, ◌||◌, List, [], ◌∷◌, ◌++◌, length, is_some, Some, None, Option, sym, refl, ◌∙◌, subst, ap₂, append-nil, length-append, arith}
+use Rattle.frames.specs.declared.procedure.Procedure.TheVariants.{RateControl as Rating, TimeAlignment as Aligning}
+use Rattle.frames.specs.declared.procedure.Procedure.TheVariants.{Initialisation as Offering}
+use Rattle.sets.specs.Contents.{Contents}
 use Rattle.reports.specs.declared.ending.Kind.TheVariants.{Initialisation, RateControl, TimeAlignment}
-use Rattle.reports.specs.Said.{Happening, delivered_in}
+use Rattle.reports.specs.declared.ending.Ending.TheVariants.{NoAnswer, Rejected, RateFailure, AlignmentFailure}
+use Rattle.reports.specs.declared.happening.Happening.{Happening}
+use Rattle.reports.specs.Said.{delivered_in}
 use Rattle.reports.specs.Effects.{Effect}
-use Rattle.exchange.specs.Books.{Mark, waited, named, done_in}
-use Rattle.exchange.specs.Asking.{Form, Proper, Asked, Watch, watch_of, asking, ticked}
-use Rattle.exchange.proofs.Moves.{Move, idles}
-use Rattle.exchange.proofs.Exchanging.{only, silence, watch-asking, Asks, ticking, unticked, named-++}
-use Rattle.questions.specs.Forms.{links_form, rate_form, alignment_form}
+use Rattle.reports.proofs.Noting.{delivered_in_append}
+use Rattle.exchange.specs.declared.exchange.Exchange.{Exchange}
+use Rattle.exchange.specs.Slots.{slot_ticked}
+use Rattle.exchange.specs.Books.{waited, named}
+use Rattle.exchange.proofs.Moves.{watched, Move, idles}
+use Rattle.exchange.proofs.Exchanging.{Asks, Same, slot_ticking, unticked, named-++}
+use Rattle.exchange.proofs.Exchanging as Exchanging
+use Rattle.questions.specs.Answering.{acceptance_leads, alignment_leads}
+use Rattle.questions.specs.Kinds.{links_asked, links_frames, links_follow, rate_asked, rate_frames, alignment_asked, alignment_frames, alone}
 use Rattle.questions.proofs.Proper.{links_proper, rate_proper, alignment_proper}
 use Rattle.bearer.specs.declared.settings.Numbering.{Numbering}
-use Rattle.bearer.specs.declared.settings.Settings.{Settings}
-use Rattle.bearer.specs.Bearing.{Force}
+use Rattle.bearer.specs.declared.settings.Numbering.TheVariants.{Timed, Counted}
+use Rattle.bearer.specs.Bearing.{Force, standing}
 use Rattle.bearer.specs.Traffics.{time_passed}
+use Rattle.bearer.proofs.Sayings.{done_in-++}
+use Rattle.bearer.proofs.Carrying.{none_borne}
 use Rattle.radio_end.specs.Radio.{Radio}
-use Rattle.radio_end.specs.Steps.{timed, ticked_links, ticked_rate, ticked_alignment}
+use Rattle.radio_end.specs.Steps.{timed, links_ticked, rate_ticked, alignment_ticked}
 use Rattle.radio_end.specs.Ledger.{settled}
-use Rattle.bearer.proofs.Sayings.{done_in-++, delivered_in-++}
-use Rattle.bearer.proofs.Carrying.{set_of, none_borne}
-use Rattle.radio_end.proofs.Going.{Alone, Sound, Goes, unsettled}
-use Rattle.radio_end.proofs.Requesting.{make}
+use Rattle.radio_end.proofs.Going.{Alone, Sound, Offer, Goes, unsettled}
 use Rattle.radio_end.proofs.Hearing.{offer_on}
 
-time_set : (m : Numbering) (f : Option Force) → set_of (time_passed m f) ≡ set_of f
+time_set : (m : Numbering) (f : Option Force) → standing (time_passed m f) ≡ standing f
 time_set m None = refl
-time_set m (Some x) = refl
-
-idle_none : {M : Type 0} (t n : ℕ) (o : Option (Asked M)) → o ≡ None → Move t n (watch_of o) (waited ∷ []) (watch_of o)
-idle_none t n o e = subst (λ o. Move t n (watch_of o) (waited ∷ []) (watch_of o)) (sym e) idles
+time_set Counted (Some x) = refl
+time_set Timed (Some x) = refl
 
 -- what a tick that says s does
 abbrev pub Ticked : Radio → List Happening → Radio → Type 0
 Ticked r s r' = Goes r (λ k. waited ∷ named k s) s (settled s) r'
 
-alone_on : (c : Contents) (w : Option Watch) (o o' : Option Contents) (x : Option (Asked (List Bool))) (y : Option (Asked ℕ)) → o' ≡ o → (o ≡ None) × (x ≡ None) × (y ≡ None) → Alone (asking c w) o' x y
-alone_on c None o o' x y e h = tt
-alone_on c (Some w) o o' x y e h = (e ∙ h.0, h.1, h.2)
+idle_none : {Q : Type 0} (t n : ℕ) (o : Option (Exchange Q)) → o ≡ None → Move t n (watched o) (waited ∷ []) (watched o)
+idle_none t n o e = subst (λ o. Move t n (watched o) (waited ∷ []) (watched o)) (sym e) idles
+
+alone_on : (w : Option (Exchange Contents)) (o o' : Option Contents) (x : Option (Exchange (List Bool))) (y : Option (Exchange ℕ)) → o' ≡ o → (o ≡ None) × (x ≡ None) × (y ≡ None) → Alone w o' x y
+alone_on None o o' x y e h = tt
+alone_on (Some w) o o' x y e h = (e ∙ h.0, h.1, h.2)
 
 -- an initialisation, alone
-ticking_links : (takes : ℕ → Bool) (s : Settings) (v : ℕ) (f : Option Force) (a : Asked Contents) (x : Option (Asked (List Bool))) (y : Option (Asked ℕ)) (i j : ℕ) → Sound (make s v f (Some a) x y i j) → Ticked (make s v f (Some a) x y i j) (ticked_links takes (timed (make s v f (Some a) x y i j)) a).says (ticked_links takes (timed (make s v f (Some a) x y i j)) a).next
-ticking_links takes s v f a x y i j h =
-    let q = a.question in
-    let r = make s v f (Some a) x y i j in
-    let t = s.initialisation.ticks in
-    let n = s.initialisation.repeats in
-    let g = ticking (links_form q) (links_proper q) takes t n a.watch h.links in
-    let o = ticked (links_form q) takes t n a.watch in
-    let same = time_set s.numbering f in
+ticking_links : (takes : ℕ → Bool) (r : Radio) (e : Exchange Contents) → r.links ≡ Some e → Sound r
+    → (let f = slot_ticked links_frames Initialisation takes r.bearing.settings.initialisation NoAnswer (Some e) in Ticked r f.says (record (timed r) { links = f.next }))
+ticking_links takes r e is h =
+    let f = slot_ticked links_frames Initialisation takes r.bearing.settings.initialisation NoAnswer (Some e) in
+    let g = slot_ticking Offering Initialisation links_asked links_frames links_follow NoAnswer Rejected acceptance_leads links_proper r.bearing.settings.initialisation takes (Some e) (subst Asks is h.links) in
+    let same = time_set r.bearing.settings.numbering r.bearing.force in
+    let alone = subst (λ o. Alone o (standing r.bearing.force) r.rate r.alignment) is h.alone in
     record {
       settings = refl;
-      sound = record { links = subst Asks (sym (watch-asking q o.next)) g.asks; rate = h.rate; alignment = h.alignment; rates = h.rates; alignments = h.alignments; alone = alone_on q o.next (set_of f) (set_of (time_passed s.numbering f)) x y same h.alone };
-      links = rw (watch-asking q o.next, g.says Initialisation) g.move;
-      rate = rw (g.says RateControl) (idle_none s.rate.ticks s.rate.repeats x h.alone.1);
-      alignment = rw (g.says TimeAlignment) (idle_none s.alignment.ticks s.alignment.repeats y h.alone.2);
-      stored = unsettled r (ticked_links takes (timed r) a).next o.says same (λ c e. offer_on q o.next c e) (unticked (links_form q) (links_proper q) takes t n a.watch Initialisation);
-      borne = none_borne (set_of f) (delivered_in o.says) g.plain;
+      sound = record { links = g.asks; rate = h.rate; alignment = h.alignment; rates = h.rates; alignments = h.alignments; alone = alone_on f.next (standing r.bearing.force) (standing (timed r).bearing.force) r.rate r.alignment same alone };
+      links = rw (is, g.says Initialisation) g.move;
+      rate = rw (g.says RateControl) (idle_none r.bearing.settings.rate.ticks r.bearing.settings.rate.repeats r.rate alone.1);
+      alignment = rw (g.says TimeAlignment) (idle_none r.bearing.settings.alignment.ticks r.bearing.settings.alignment.repeats r.alignment alone.2);
+      stored = unsettled r (record (timed r) { links = f.next }) f.says same (λ o c. offer_on e f.next o g.steady (subst (λ l. Offer l o) is c)) (unticked Offering Initialisation links_asked links_frames links_follow NoAnswer Rejected acceptance_leads links_proper r.bearing.settings.initialisation takes e Initialisation);
+      borne = none_borne (standing r.bearing.force) (delivered_in f.says) g.plain;
+      few = omega (arith, g.few);
     }
 
--- one of the others
-record Passes (t n : ℕ) (k : Kind) (o : Option Watch) (s : List Happening) (o' : Option Watch) : Type 0 where
-  marks : List Mark
-  move : Move t n o (waited ∷ marks) o'
-  says : (j : Kind) → named j s ≡ only k j marks
-  asks : Asks o'
-  done : (j : Kind) → done_in j s ≡ false
-  plain : delivered_in s ≡ []
+pub alone_fits : (takes : ℕ → Bool) (r : Radio) (o : Option (Exchange Contents)) → r.links ≡ o → is_some o ≡ true → Sound r → Ticked r (links_ticked takes (timed r)).says (links_ticked takes (timed r)).next
+alone_fits takes r None is runs h = let z : ◌≡◌ {A = ℕ} 0 1 = cc in absurd (omega arith)
+alone_fits takes r (Some e) is runs h =
+    subst (λ o. let f = slot_ticked links_frames Initialisation takes r.bearing.settings.initialisation NoAnswer o in Ticked r f.says (record (timed r) { links = f.next })) (sym is) (ticking_links takes r e is h)
 
-idly : (t n : ℕ) (k : Kind) → Passes t n k None [] None
-idly t n k = record { marks = []; move = idles; says = λ j. silence k j; asks = tt; done = λ j. refl; plain = refl }
+-- both of the others, rate first
+module _ (r : Radio) (x : Effect (Option (Exchange (List Bool))) (Unit {0})) (y : Effect (Option (Exchange ℕ)) (Unit {0})) where
+  ticking_both : r.links ≡ None
+      → Exchanging.Goes r.bearing.settings.rate RateControl (waited ∷ []) r.rate x
+      → Exchanging.Goes r.bearing.settings.alignment TimeAlignment (waited ∷ []) r.alignment y
+      → Sound r → Ticked r (x.says ++ y.says) (record (timed r) { rate = x.next; alignment = y.next })
+  ticking_both none g p h =
+      let s₁ = x.says in
+      let s₂ = y.says in
+      let same = time_set r.bearing.settings.numbering r.bearing.force in
+      record {
+        settings = refl;
+        sound = record {
+          links = h.links;
+          rate = g.asks;
+          alignment = p.asks;
+          rates = h.rates;
+          alignments = h.alignments;
+          alone = subst (λ l. Alone l (standing (timed r).bearing.force) x.next y.next) (sym none) tt;
+        };
+        links = rw (named-++ Initialisation s₁ s₂, g.says Initialisation, p.says Initialisation) (idle_none r.bearing.settings.initialisation.ticks r.bearing.settings.initialisation.repeats r.links none);
+        rate = rw (named-++ RateControl s₁ s₂, g.says RateControl, p.says RateControl, append-nil g.marks) g.move;
+        alignment = rw (named-++ TimeAlignment s₁ s₂, g.says TimeAlignment, p.says TimeAlignment) p.move;
+        stored = unsettled r (record (timed r) { rate = x.next; alignment = y.next }) (s₁ ++ s₂) same (λ o e. e) (done_in-++ Initialisation s₁ s₂ ∙ ap₂ ◌||◌ (g.other Initialisation refl) (p.other Initialisation refl));
+        borne = none_borne (standing r.bearing.force) (delivered_in (s₁ ++ s₂)) (delivered_in_append s₁ s₂ ∙ ap₂ ◌++◌ g.plain p.plain);
+        few = omega (arith, g.few, p.few, length-append s₁ s₂);
+      }
 
-passing : {M : Type 0} (f : Form) (proper : Proper f) (takes : ℕ → Bool) (t n : ℕ) (q : M) (a : Watch) → Asks (Some a) → Passes t n f.kind (Some a) (ticked f takes t n a).says (watch_of (asking q (ticked f takes t n a).next))
-passing f proper takes t n q a h =
-    let g = ticking f proper takes t n a h in
-    let e = sym (watch-asking q (ticked f takes t n a).next) in
-    record { marks = g.marks; move = subst (Move t n (Some a) (waited ∷ g.marks)) e g.move; says = g.says; asks = subst Asks e g.asks; done = unticked f proper takes t n a; plain = g.plain }
+pub twice_fits : (takes takes' : ℕ → Bool) (r : Radio) → r.links ≡ None → Sound r
+    → (let f = rate_ticked takes (timed r) in let f' = alignment_ticked takes' f.next in Ticked r (f.says ++ f'.says) f'.next)
+twice_fits takes takes' r none h =
+    ticking_both r (slot_ticked rate_frames RateControl takes r.bearing.settings.rate RateFailure r.rate) (slot_ticked alignment_frames TimeAlignment takes' r.bearing.settings.alignment AlignmentFailure r.alignment) none
+    (slot_ticking Rating RateControl rate_asked rate_frames alone RateFailure RateFailure acceptance_leads rate_proper r.bearing.settings.rate takes r.rate h.rate)
+    (slot_ticking Aligning TimeAlignment alignment_asked alignment_frames alone AlignmentFailure AlignmentFailure alignment_leads alignment_proper r.bearing.settings.alignment takes' r.alignment h.alignment) h
 
--- both of them, rate first
-ticking_both : (s : Settings) (v : ℕ) (f : Option Force) (x x' : Option (Asked (List Bool))) (y y' : Option (Asked ℕ)) (i j : ℕ) (s₁ s₂ : List Happening)
-    → Passes s.rate.ticks s.rate.repeats RateControl (watch_of x) s₁ (watch_of x')
-    → Passes s.alignment.ticks s.alignment.repeats TimeAlignment (watch_of y) s₂ (watch_of y')
-    → Sound (make s v f None x y i j) → Ticked (make s v f None x y i j) (s₁ ++ s₂) (make s v (time_passed s.numbering f) None x' y' i j)
-ticking_both s v f x x' y y' i j s₁ s₂ g p h =
-    let r = make s v f None x y i j in
-    let same = time_set s.numbering f in
-    let r' = make s v (time_passed s.numbering f) None x' y' i j in
-    record {
-      settings = refl;
-      sound = record { links = tt; rate = g.asks; alignment = p.asks; rates = h.rates; alignments = h.alignments; alone = tt };
-      links = rw (named-++ Initialisation s₁ s₂, g.says Initialisation, p.says Initialisation) idles;
-      rate = rw (named-++ RateControl s₁ s₂, g.says RateControl, p.says RateControl, append-nil g.marks) g.move;
-      alignment = rw (named-++ TimeAlignment s₁ s₂, g.says TimeAlignment, p.says TimeAlignment) p.move;
-      stored = unsettled r r' (s₁ ++ s₂) same (λ o e. e) (done_in-++ Initialisation s₁ s₂ ∙ ap₂ ◌||◌ (g.done Initialisation) (p.done Initialisation));
-      borne = none_borne (set_of f) (delivered_in (s₁ ++ s₂)) (delivered_in-++ s₁ s₂ ∙ ap₂ ◌++◌ g.plain p.plain);
-    }
+-- each of them says little
+pub rate_few : (takes : ℕ → Bool) (r : Radio) → Sound r → length (rate_ticked takes (timed r)).says ≤ 1
+rate_few takes r h =
+    (slot_ticking Rating RateControl rate_asked rate_frames alone RateFailure RateFailure acceptance_leads rate_proper r.bearing.settings.rate takes r.rate h.rate).few
 
-module _ (takes takes' : ℕ → Bool) where
-  abbrev pub first : Radio → Effect Radio (Unit {0})
-  first r = ticked_rate takes (timed r) r.rate
-
-  abbrev pub second : Radio → Effect Radio (Unit {0})
-  second r = ticked_alignment takes' r r.alignment
-
-  ticking_twice : (s : Settings) (v : ℕ) (f : Option Force) (x : Option (Asked (List Bool))) (y : Option (Asked ℕ)) (i j : ℕ) → Sound (make s v f None x y i j) → Ticked (make s v f None x y i j) ((first (make s v f None x y i j)).says ++ (second (first (make s v f None x y i j)).next).says) (second (first (make s v f None x y i j)).next).next
-  ticking_twice s v f None None i j h = ticking_both s v f None None None None i j [] [] (idly _ _ RateControl) (idly _ _ TimeAlignment) h
-  ticking_twice s v f (Some a) None i j h =
-      ticking_both s v f (Some a) _ None None i j _ [] (passing (rate_form a.question) (rate_proper a.question) takes s.rate.ticks s.rate.repeats a.question a.watch h.rate) (idly _ _ TimeAlignment) h
-  ticking_twice s v f None (Some c) i j h =
-      ticking_both s v f None None (Some c) _ i j [] _ (idly _ _ RateControl) (passing (alignment_form c.question) (alignment_proper c.question) takes' s.alignment.ticks s.alignment.repeats c.question c.watch h.alignment) h
-  ticking_twice s v f (Some a) (Some c) i j h =
-      ticking_both s v f (Some a) _ (Some c) _ i j _ _ (passing (rate_form a.question) (rate_proper a.question) takes s.rate.ticks s.rate.repeats a.question a.watch h.rate) (passing (alignment_form c.question) (alignment_proper c.question) takes' s.alignment.ticks s.alignment.repeats c.question c.watch h.alignment) h
-
--- of any end
-pub alone_fits : (takes : ℕ → Bool) (a : Asked Contents) (r : Radio) → r.links ≡ Some a → Sound r → Ticked r (ticked_links takes (timed r) a).says (ticked_links takes (timed r) a).next
-alone_fits takes a r is =
-    let s = r.bearing.settings in
-    let v = r.bearing.events in
-    let f = r.bearing.force in
-    subst (λ l. Sound (make s v f l r.rate r.alignment r.rates r.alignments) → Ticked (make s v f l r.rate r.alignment r.rates r.alignments) (ticked_links takes (timed r) a).says (ticked_links takes (timed r) a).next) (sym is)
-    (ticking_links takes s v f a r.rate r.alignment r.rates r.alignments)
-
-pub twice_fits : (takes takes' : ℕ → Bool) (r : Radio) → r.links ≡ None → Sound r → Ticked r ((first takes takes' r).says ++ (second takes takes' (first takes takes' r).next).says) (second takes takes' (first takes takes' r).next).next
-twice_fits takes takes' r is =
-    let s = r.bearing.settings in
-    let v = r.bearing.events in
-    let f = r.bearing.force in
-    subst (λ l. Sound (make s v f l r.rate r.alignment r.rates r.alignments) → Ticked (make s v f l r.rate r.alignment r.rates r.alignments) ((first takes takes' (make s v f l r.rate r.alignment r.rates r.alignments)).says ++ (second takes takes' (first takes takes' (make s v f l r.rate r.alignment r.rates r.alignments)).next).says) (second takes takes' (first takes takes' (make s v f l r.rate r.alignment r.rates r.alignments)).next).next) (sym is)
-    (ticking_twice takes takes' s v f r.rate r.alignment r.rates r.alignments)
+pub alignment_few : (takes : ℕ → Bool) (r : Radio) → Asks r.alignment → length (alignment_ticked takes r).says ≤ 1
+alignment_few takes r h =
+    (slot_ticking Aligning TimeAlignment alignment_asked alignment_frames alone AlignmentFailure AlignmentFailure alignment_leads alignment_proper r.bearing.settings.alignment takes r.alignment h).few

@@ -1,9 +1,10 @@
 -- The ledger of a run, from its calls alone: they come the latest first.
 use Rattle.std.specs.Prelude.{ℕ, cond, List, [], ◌∷◌, ◌++◌, Some, None, Ok, Err, Option}
-use Rattle.sets.specs.Closing.{Contents}
+use Rattle.sets.specs.Contents.{Contents}
 use Rattle.reports.specs.declared.ending.Kind.{Kind}
 use Rattle.reports.specs.declared.ending.Kind.TheVariants.{Initialisation, RateControl, TimeAlignment}
-use Rattle.reports.specs.Said.{Happening, handed_in, delivered_in}
+use Rattle.reports.specs.declared.happening.Happening.{Happening}
+use Rattle.reports.specs.Said.{handed_in, delivered_in}
 use Rattle.exchange.specs.Books.{Mark, waited, named, done_in, Books, blank, entered}
 use Rattle.bearer.specs.Ledgers.{granted, Borne, taken_out}
 use Rattle.radio_end.specs.Runs.{Call, start, rate, align, send, report, seek, receive, tick, take}

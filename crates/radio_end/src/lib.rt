@@ -2,13 +2,5 @@
 
 #![tactic(auto)]
 
-mod answers;
-mod carrying;
-mod opening;
 pub mod received;
-mod receiving;
-mod requests;
-mod standing;
 pub mod state;
-mod taking;
-mod ticking;

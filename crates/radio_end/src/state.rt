@@ -1,24 +1,37 @@
 // What the radio end holds.
+mod carrying;
+mod hearing;
+mod opening;
+mod receiving;
+mod requests;
+mod standing;
+mod taking;
+mod ticking;
+
 use bearer::bearer::Bearer;
 use exchange::exchange::Exchange;
 use frames::number::Number;
 use questions::alignment::AlignmentQuestion;
 use questions::links::Links;
 use questions::rate::RateQuestion;
+use std::marker::Model;
 
-// Beside its line: the bearer, an exchange of each kind while it runs, and the number of the next rate and alignment question.
-#[derive(Clone, Copy)]
-pub struct State {
-    pub bearer: Bearer,
-    pub links: Option<Exchange<Links>>,
-    pub rate: Option<Exchange<RateQuestion>>,
-    pub alignment: Option<Exchange<AlignmentQuestion>>,
-    pub rates: Number,
-    pub alignments: Number,
-}
-
+// The bearer, an exchange of each kind while it runs, the number of the next rate and alignment question, and the line.
 #[derive(Drop)]
 pub struct RadioEnd<L> {
-    pub(crate) state: State,
-    pub(crate) line: L,
+    bearer: Bearer,
+    links: Option<Exchange<Links>>,
+    rate: Option<Exchange<RateQuestion>>,
+    alignment: Option<Exchange<AlignmentQuestion>>,
+    rates: Number,
+    alignments: Number,
+    line: L,
+}
+
+impl<L> Model for RadioEnd<L> {
+    ghost use Rattle.radio_end.specs.Radio.{Radio, On};
+
+    ghost Value = { On Radio L };
+
+    ghost view = { λ e. record { state = record { bearing = e.bearer; links = e.links; rate = e.rate; alignment = e.alignment; rates = e.rates.value; alignments = e.alignments.value }; line = e.line } };
 }

@@ -2,7 +2,7 @@
 ghost use Rattle.std.specs.Prelude.{◌≡◌};
 ghost use Rattle.reports.specs.Endings.{cause_of};
 
-#[derive(Clone, Copy)]
+#[derive(Clone, Copy, PartialEq, Eq, Debug)]
 pub enum Kind {
     Initialisation,
     RateControl,
@@ -11,7 +11,7 @@ pub enum Kind {
     HostQuestion,
 }
 
-#[derive(Clone, Copy)]
+#[derive(Clone, Copy, PartialEq, Eq, Debug)]
 pub enum Ending {
     Done,
     // a new initialisation ended it
@@ -30,13 +30,12 @@ pub enum Ending {
 
 impl Ending {
     // The cause by which a failure is told; none for what ended well or was overtaken.
+    // The numbers are the interface's own, and three endings have none: no discriminant could stand for them.
     pub fn cause(self) -> Option<u8>
         ensures { result ≡ cause_of self }
     {
         match self {
-            Ending::Done => None,
-            Ending::Overtaken => None,
-            Ending::Accepted => None,
+            Ending::Done | Ending::Overtaken | Ending::Accepted => None,
             Ending::NoAnswer => Some(43),
             Ending::Rejected => Some(44),
             Ending::RateFailure => Some(45),

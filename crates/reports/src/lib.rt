@@ -3,6 +3,6 @@
 #![tactic(auto)]
 
 pub mod ending;
-mod reading;
+pub mod happening;
 pub mod report;
 pub mod sending;

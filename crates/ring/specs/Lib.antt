@@ -1,4 +1,3 @@
-pub mod Bounds
+pub mod Round
 pub mod Sizes
 pub mod Packed
-pub mod Waiting

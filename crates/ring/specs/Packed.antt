@@ -1,9 +1,7 @@
 -- What a ring holds: each frame as its length in two octets, high first, and its octets.
-use Rattle.std.specs.Prelude.{◌≡◌, ℕ, zero, suc, ◌+◌, ◌*◌, ◌/◌, ◌%◌, ◌<◌, ◌≤◌, Bool, ◌&&◌, List, [], ◌∷◌, ◌++◌, length, take, drop, nat_le, slice_index_or}
-use Rattle.lines.specs.Meaning.{Framed, fits}
-use Rattle.lines.specs.Circle.{window}
-use Rattle.ring.specs.Bounds.{least, greatest}
-use Rattle.ring.specs.declared.store.Store.{Store}
+use Rattle.std.specs.Prelude.{◌≡◌, ℕ, zero, suc, ◌+◌, ◌-◌, ◌*◌, ◌/◌, ◌%◌, ◌≤◌, Bool, ◌&&◌, List, [], ◌∷◌, ◌++◌, length, take, drop, nat_le}
+use Rattle.lines.specs.Meaning.{fits, EachFramed}
+use Rattle.ring.specs.Round.{least, Held}
 
 -- frames as octets, one behind the other
 abbrev pub packed : List (List ℕ) → List ℕ
@@ -26,31 +24,20 @@ cost (f ∷ fs) = length f + 2 + cost fs
 abbrev pub room : ℕ → List (List ℕ) → ℕ → Bool
 room size fs n = fits n && nat_le (cost fs + (n + 2)) size
 
--- the octets in use, oldest first
-abbrev pub content : Store → List ℕ
-content s = window 0 s.octets s.size s.head s.used
+-- the frames that the octets are
+abbrev pub frames_in : List ℕ → List (List ℕ)
+frames_in os = unpacked (length os) os
 
--- the frames that wait, oldest first
-abbrev pub held : Store → List (List ℕ)
-held s = unpacked s.used (content s)
+-- how many octets there are beyond the least, and the frames that wait, oldest first
+pub record Standing : Type 0 where
+  pub spare : ℕ
+  pub frames : List (List ℕ)
 
--- the frame that has waited longest
-abbrev pub oldest : Store → List ℕ
-oldest s = slice_index_or (held s) 0 []
-
--- places in range
-pub record Round (s : Store) : Type 0 where
-  pub most : s.size ≤ greatest
-  pub begun : s.head < s.size
-  pub within : s.used ≤ s.size
-
--- every frame of the list has a length that a frame can have
-abbrev pub EachFramed : List (List ℕ) → Type 0
-EachFramed fs = (k : ℕ) → k < length fs → Framed (slice_index_or fs k [])
+abbrev pub standing : Held → Standing
+standing h = record { spare = h.size - least; frames = frames_in h.content }
 
 -- the octets in use are the frames, and nothing else
-pub record Sound (s : Store) : Type 0 where
-  pub round : Round s
-  pub large : least ≤ s.size
-  pub whole : packed (held s) ≡ content s
-  pub framed : EachFramed (held s)
+pub record Sound (h : Held) : Type 0 where
+  pub large : least ≤ h.size
+  pub whole : packed (frames_in h.content) ≡ h.content
+  pub framed : EachFramed (frames_in h.content)

@@ -2,9 +2,7 @@
 
 #![tactic(auto)]
 
-mod making;
-pub mod queue;
+mod circle;
 pub mod ring;
 pub mod size;
-mod sizing;
-mod store;
+pub mod store;

@@ -1,10 +1,21 @@
 // How many octets a ring has: room for one frame of the greatest length, up to 65,536.
-ghost use Rattle.std.specs.Prelude.{◌≤◌};
-ghost use Rattle.ring.specs.Bounds.{least, greatest};
+ghost use Rattle.std.specs.Prelude.{◌≡◌};
+ghost use Rattle.ring.specs.Sizes.{octets_in};
 
-#[derive(Clone, Copy)]
-pub struct RingSize {
-    pub(crate) size: usize,
-    ghost large: { least ≤ size },
-    ghost most: { size ≤ greatest },
+use frames::octets::LONGEST;
+use frames::refusal::Refusal;
+use lines::size::Size;
+
+// A frame of the greatest length has room in the smallest ring.
+pub const LEAST: usize = LONGEST + 2;
+
+// The most octets that a ring can have.
+pub const GREATEST: usize = 65536;
+
+pub type RingSize = Size<LEAST, GREATEST>;
+
+pub fn ring_size(octets: usize) -> Result<RingSize, Refusal>
+    ensures { result ≡ octets_in octets }
+{
+    RingSize::new(octets)
 }

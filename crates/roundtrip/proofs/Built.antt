@@ -13,10 +13,7 @@ use Rattle.frames.specs.declared.refusal.Refusal.{Refusal}
 use Rattle.frames.specs.Contents as seen
 use Rattle.frames.specs.Contents.{Contents, parsed, sum_field}
 use Rattle.frames.specs.Distances.{distance_code}
-use Rattle.frames.specs.declared.octets.Octets.{Octets}
 use Rattle.frames.specs.Extent.{octets_for}
-use Rattle.frames.specs.Frame.{octets_of}
-use Rattle.frames.specs.Joined.{held}
 use Rattle.frames.specs.Values.{shift_of}
 use Rattle.payloads.specs.Checks.{versioned, opened, within, summed}
 use Rattle.payloads.specs.Payloads.{count_in, barred, marks_at, marks_in, rate_in, alignment_in, event_of, event_in, ack_in, nack_in}
@@ -163,8 +160,8 @@ result_from o m (Err r) by e t x = absurd (let z : ◌≡◌ {A = ℕ} 0 1 = cc 
 pub read_is_built : ReadIsBuilt
 read_is_built o m by t x = result_from o m (parsed o) by refl t x
 
-pub same_from : (o : List ℕ) (r : Result Octets Refusal) → ((k : ℕ) → get_or o k 0 < 256) → held r ≡ rebuilt o → Exact o → IfOk r (λ f. octets_of f ≡ o)
+pub same_from : (o : List ℕ) (r : Result (List ℕ) Refusal) → ((k : ℕ) → get_or o k 0 < 256) → r ≡ rebuilt o → Exact o → IfOk r (λ f. f ≡ o)
 same_from o (Ok f) by h x =
-    let j = mapped_from sent (told o) (octets_of f) (sym h) in
+    let j = mapped_from sent (told o) f (sym h) in
     sym j.2 ∙ read_is_built o j.0 by j.1 x
 same_from o (Err e) by h x = tt

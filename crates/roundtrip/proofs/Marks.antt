@@ -1,18 +1,13 @@
 -- The marks of a rate question, packed and read again.
 -- Assumes nothing.
 use Rattle.std.proofs.Common.{◌≡◌, ℕ, zero, suc, ◌+◌, ◌-◌, ◌*◌, ◌/◌, ◌%◌, ◌^◌, ◌<◌, ◌≤◌, Bool, true, false, cond, eqb, List, length, get_or, drop, sym, refl, ap, ◌∙◌, ⊎_elim, arith}
-use Rattle.std.proofs.lemmas.List.{get_or-drop, drop-drop, get_or_past, ext_get_or}
+use Rattle.std.proofs.lemmas.List.{get_or-drop, get_or_past, ext_get_or}
 use Rattle.std.proofs.lemmas.List.FromFn.{fill_by_all, get_or-map-range_with_len, length-map-range_with_len}
 use Rattle.std.proofs.lemmas.Bool.{cases_lt}
 use Rattle.frames.specs.Extent.{octets_for}
 use Rattle.building.specs.Rates.{mark, mark_octet, mark_octets}
-use Rattle.building.proofs.Marks.{octets_more, octets_none}
+use Rattle.building.proofs.Marks.{bits, length-octets, octet_at}
 use Rattle.payloads.specs.Payloads.{barred, marks_at}
-
-pub mark_below : (b : List Bool) (k : ℕ) → mark b k < 2
-mark_below b k =
-    let e : (v : Bool) → cond v 1 0 < 2 = λ v. elim v as (λ w. cond w 1 0 < 2) [ true ↦ omega arith | false ↦ omega arith ] in
-    e (get_or b k false)
 
 pub mark_eqb : (b : List Bool) (k : ℕ) → eqb (mark b k) 1 ≡ get_or b k false
 mark_eqb b k =
@@ -21,28 +16,15 @@ mark_eqb b k =
 
 -- a bit of an octet of marks
 pub bit_of : (b : List Bool) (i : ℕ) → i < 8 → mark_octet b / 2 ^ (7 - i) % 2 ≡ mark b i
-bit_of b zero h = omega (arith, mark_below b 0, mark_below b 1, mark_below b 2, mark_below b 3, mark_below b 4, mark_below b 5, mark_below b 6, mark_below b 7)
-bit_of b (suc zero) h = omega (arith, mark_below b 0, mark_below b 1, mark_below b 2, mark_below b 3, mark_below b 4, mark_below b 5, mark_below b 6, mark_below b 7)
-bit_of b (suc (suc zero)) h = omega (arith, mark_below b 0, mark_below b 1, mark_below b 2, mark_below b 3, mark_below b 4, mark_below b 5, mark_below b 6, mark_below b 7)
-bit_of b (suc (suc (suc zero))) h = omega (arith, mark_below b 0, mark_below b 1, mark_below b 2, mark_below b 3, mark_below b 4, mark_below b 5, mark_below b 6, mark_below b 7)
-bit_of b (suc (suc (suc (suc zero)))) h = omega (arith, mark_below b 0, mark_below b 1, mark_below b 2, mark_below b 3, mark_below b 4, mark_below b 5, mark_below b 6, mark_below b 7)
-bit_of b (suc (suc (suc (suc (suc zero))))) h = omega (arith, mark_below b 0, mark_below b 1, mark_below b 2, mark_below b 3, mark_below b 4, mark_below b 5, mark_below b 6, mark_below b 7)
-bit_of b (suc (suc (suc (suc (suc (suc zero)))))) h = omega (arith, mark_below b 0, mark_below b 1, mark_below b 2, mark_below b 3, mark_below b 4, mark_below b 5, mark_below b 6, mark_below b 7)
-bit_of b (suc (suc (suc (suc (suc (suc (suc zero))))))) h = omega (arith, mark_below b 0, mark_below b 1, mark_below b 2, mark_below b 3, mark_below b 4, mark_below b 5, mark_below b 6, mark_below b 7)
+bit_of b zero h = let w = bits b in omega arith
+bit_of b (suc zero) h = let w = bits b in omega arith
+bit_of b (suc (suc zero)) h = let w = bits b in omega arith
+bit_of b (suc (suc (suc zero))) h = let w = bits b in omega arith
+bit_of b (suc (suc (suc (suc zero)))) h = let w = bits b in omega arith
+bit_of b (suc (suc (suc (suc (suc zero))))) h = let w = bits b in omega arith
+bit_of b (suc (suc (suc (suc (suc (suc zero)))))) h = let w = bits b in omega arith
+bit_of b (suc (suc (suc (suc (suc (suc (suc zero))))))) h = let w = bits b in omega arith
 bit_of b (suc (suc (suc (suc (suc (suc (suc (suc i)))))))) h = absurd (omega arith)
-
-pub length-octets : (n : ℕ) (b : List Bool) → length (mark_octets n b) ≡ n
-length-octets zero b = ap length (octets_none b)
-length-octets (suc n) b = ap length (octets_more n b) ∙ ap suc (length-octets n (drop 8 b))
-
-pub octet_at : (n j : ℕ) (b : List Bool) → j < n → get_or (mark_octets n b) j 0 ≡ mark_octet (drop (8 * j) b)
-octet_at zero j b h = absurd (omega arith)
-octet_at (suc n) zero b h = ap (λ (t : List ℕ). get_or t 0 0) (octets_more n b)
-octet_at (suc n) (suc j) b h =
-    let e : 8 + 8 * j ≡ 8 * suc j = omega arith in
-    ap (λ (t : List ℕ). get_or t (suc j) 0) (octets_more n b)
-    ∙ octet_at n j (drop 8 b) (omega arith)
-    ∙ ap mark_octet (drop-drop (8 * j) 8 b ∙ ap (λ (m : ℕ). drop m b) e)
 
 -- each mark is read as it was packed
 pub mark_read : (n k : ℕ) (b : List Bool) → k < 8 * n → get_or b k false ≡ barred (mark_octets n b) k

@@ -22,7 +22,8 @@ use Rattle.payloads.specs.Payloads.{marks_in, event_of}
 use Rattle.building.specs.Rates.{rate_payload}
 use Rattle.roundtrip.specs.Messages.{user, link, rate, alignment, event, ack, nack, told, read_on, mapped}
 use Rattle.roundtrip.specs.Trips.{BuiltIsRead}
-use Rattle.roundtrip.proofs.Marks.{length-octets, marks_read}
+use Rattle.roundtrip.proofs.Marks.{marks_read}
+use Rattle.building.proofs.Marks.{length-octets}
 use Rattle.frames.specs.Procedures.{code_of}
 use Rattle.building.specs.Building.{question_frame, spared, error_frame}
 use Rattle.building.specs.UserData.{user_frame}

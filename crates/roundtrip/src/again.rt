@@ -1,16 +1,14 @@
 // Each kind of frame, built again from what was read of it.
-ghost use Rattle.std.specs.Prelude.{◌≡◌, ◌+◌, ◌<◌, ◌≤◌, length};
-ghost use Rattle.frames.specs.Joined.{held};
-ghost use Rattle.payloads.specs.Checks.{summed};
-ghost use Rattle.payloads.specs.Payloads.{ack_in, nack_in};
-ghost use Rattle.roundtrip.specs.Messages.{user, ack, nack, mapped, asked, sent, rebuilt};
+ghost use Rattle.std.specs.Prelude.{◌≡◌, ◌<◌, ◌≤◌, length, IfOk};
+ghost use Rattle.frames.specs.Contents.{content, Fit};
+ghost use Rattle.frames.specs.Frame.{longest};
+ghost use Rattle.roundtrip.specs.Messages.{heard, mapped, sent, rebuilt};
 
 use building::answer::{build_ack, build_nack};
 use building::question::{build_alignment, build_error_event, build_question};
 use building::rate::build_rate;
 use building::user_data::build_user_data;
-use frames::data_type::DataType;
-use frames::frame::Frame;
+use frames::frame::{Answer, Frame, Question, UserData};
 use frames::number::Number;
 use frames::octets::Octets;
 use frames::procedure::Procedure;
@@ -20,116 +18,60 @@ use payloads::answer::{read_ack, read_nack};
 use payloads::check::{check_question, check_user_data};
 use payloads::question::{read_alignment, read_error_event, read_rate};
 
-fn data_again(
-    data_type: DataType,
-    number: u8,
-    fqc: u8,
-    rfci: u8,
-    checksum: Option<u16>,
-    payload: &[u8],
-) -> Result<Octets, Refusal>
-    requires fields { (number < 16) × (fqc < 4) × (rfci < 64) }
-    requires room { length (sent (user data_type number fqc rfci payload.now)) ≤ 512 }
-    ensures { held result ≡ mapped sent (mapped (λ _. user data_type number fqc rfci payload.now) (summed checksum payload.now)) }
+fn data_again(user_data: UserData<'_>) -> Result<Octets, Refusal>
+    requires fields { Fit (content (Frame.UserData user_data)) }
+    requires room { IfOk (heard (content (Frame.UserData user_data))) (λ m. length (sent m) ≤ longest) }
+    ensures { result ≡ mapped sent (heard (content (Frame.UserData user_data.entry))) }
 {
-    check_user_data(checksum, payload)?;
-    build_user_data(data_type, number, fqc, rfci, 8 * payload.len(), payload)
+    check_user_data(user_data)?;
+    let bits = 8 * user_data.payload.len();
+    build_user_data(user_data.header, bits, user_data.payload)
 }
 
-fn question_again(
-    number: u8,
-    version: u8,
-    procedure: Procedure,
-    checksum: u16,
-    payload: &[u8],
-) -> Result<Octets, Refusal>
-    requires number { number < 4 }
-    requires room { 4 + length payload.now ≤ 512 }
-    ensures { held result ≡ mapped sent (asked procedure number version checksum payload.now) }
+fn question_again(question: Question<'_>) -> Result<Octets, Refusal>
+    requires { Fit (content (Frame.Question question)) }
+    ensures { result ≡ mapped sent (heard (content (Frame.Question question.entry))) }
 {
-    let number = Number::new(number)?;
-    match procedure {
+    let number = Number::new(question.number)?;
+    match question.procedure {
         Procedure::Initialisation => {
-            check_question(version, checksum, payload)?;
-            build_question(procedure, number, payload)
+            check_question(question)?;
+            build_question(question.procedure, number, question.payload)
         }
-        Procedure::RateControl => {
-            let mask = read_rate(version, checksum, payload)?;
-            Ok(build_rate(number, &mask))
-        }
-        Procedure::TimeAlignment => {
-            let shift = read_alignment(version, checksum, payload)?;
-            Ok(build_alignment(number, shift))
-        }
+        Procedure::RateControl => Ok(build_rate(number, &read_rate(question)?)),
+        Procedure::TimeAlignment => Ok(build_alignment(number, read_alignment(question)?)),
         Procedure::ErrorEvent => {
-            let event = read_error_event(version, checksum, payload)?;
+            let event = read_error_event(question)?;
             Ok(build_error_event(number, event.distance, event.cause))
         }
     }
 }
 
-fn ack_again(
-    number: u8,
-    version: u8,
-    procedure: Procedure,
-    payload: &[u8],
-) -> Result<Octets, Refusal>
-    requires { number < 4 }
-    ensures { held result ≡ mapped sent (mapped (λ _. ack procedure number) (ack_in version payload.now)) }
+fn ack_again(answer: Answer<'_>) -> Result<Octets, Refusal>
+    requires { answer.number < 4 }
+    ensures { result ≡ mapped sent (heard (content (Frame.Ack answer.entry))) }
 {
-    let number = Number::new(number)?;
-    read_ack(version, payload)?;
-    Ok(build_ack(procedure, number))
+    let number = Number::new(answer.number)?;
+    read_ack(answer)?;
+    Ok(build_ack(answer.procedure, number))
 }
 
-fn nack_again(
-    number: u8,
-    version: u8,
-    procedure: Procedure,
-    payload: &[u8],
-) -> Result<Octets, Refusal>
-    requires { number < 4 }
-    ensures { held result ≡ mapped sent (mapped (nack procedure number) (nack_in version payload.now)) }
+fn nack_again(answer: Answer<'_>) -> Result<Octets, Refusal>
+    requires { answer.number < 4 }
+    ensures { result ≡ mapped sent (heard (content (Frame.Nack answer.entry))) }
 {
-    let number = Number::new(number)?;
-    let cause = read_nack(version, payload)?;
-    Ok(build_nack(procedure, number, cause))
+    let number = Number::new(answer.number)?;
+    let cause = read_nack(answer)?;
+    Ok(build_nack(answer.procedure, number, cause))
 }
 
 pub(crate) fn build_again(octets: &[u8]) -> Result<Octets, Refusal>
-    ensures { held result ≡ rebuilt octets.now }
+    ensures { result ≡ rebuilt octets.now }
 {
     match read(octets)? {
-        Frame::UserData {
-            data_type,
-            number,
-            fqc,
-            rfci,
-            checksum,
-            payload,
-            ..
-        } => { data_again(data_type, number, fqc, rfci, checksum, payload) }
-        Frame::Question {
-            number,
-            version,
-            procedure,
-            checksum,
-            payload,
-            ..
-        } => { question_again(number, version, procedure, checksum, payload) }
-        Frame::Ack {
-            number,
-            version,
-            procedure,
-            payload,
-            ..
-        } => { ack_again(number, version, procedure, payload) }
-        Frame::Nack {
-            number,
-            version,
-            procedure,
-            payload,
-            ..
-        } => { nack_again(number, version, procedure, payload) }
+        Frame::UserData(user_data) => data_again(user_data),
+        Frame::Question(question) => question_again(question),
+        Frame::Ack(answer) => ack_again(answer),
+        Frame::Nack(answer) => nack_again(answer),
     }
 }

@@ -1,7 +1,5 @@
 // A received frame, read and built again.
 ghost use Rattle.std.specs.Prelude.{◌≡◌, IfOk};
-ghost use Rattle.frames.specs.Frame.{octets_of};
-ghost use Rattle.frames.specs.Joined.{held};
 ghost use Rattle.roundtrip.specs.Messages.{rebuilt};
 ghost use Rattle.roundtrip.specs.Trips.{Exact, BuiltIsRead, ReadIsBuilt, DataIsRead, DataIsBuilt};
 
@@ -11,8 +9,8 @@ use frames::refusal::Refusal;
 
 // The frame as this library sends it: spare and padding bits 0, and no spare extension. Where the received one is so, it is the same.
 pub fn rebuild(octets: &[u8]) -> Result<Octets, Refusal>
-    ensures again { held result ≡ rebuilt octets.now }
-    ensures same { Exact octets.now → IfOk result (λ f. octets_of f ≡ octets.now) }
+    ensures again { result ≡ rebuilt octets.now }
+    ensures same { Exact octets.now → IfOk result (λ f. f ≡ octets.now) }
     ensures reads { BuiltIsRead }
     ensures builds { ReadIsBuilt }
     ensures data_reads { DataIsRead }

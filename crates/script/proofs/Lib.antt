@@ -1,3 +1,2 @@
-pub mod Splitting
 pub mod Decimal
-pub mod Marking
+pub mod Splitting

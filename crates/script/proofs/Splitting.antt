@@ -1,68 +1,71 @@
 -- A line splits at the end of its first word.
-use Rattle.std.proofs.Common.{◌≡◌, ℕ, suc, ◌+◌, ◌<◌, ◌≤◌, Bool, true, false, cond, not, List, [], ◌∷◌, length, get_or, take, drop, refl, ap, arith}
-use Rattle.std.proofs.lemmas.List.{at_drop_more, at_drop_all}
-use Rattle.script.specs.Words.{is_blank, same, run_of, before, words_of}
+use Rattle.std.proofs.Common.{◌≡◌, ℕ, suc, ◌+◌, ◌<◌, ◌≤◌, Bool, true, false, cond, not, List, [], ◌∷◌, Some, None, length, take, drop, refl, ap, sym, ◌∙◌, arith}
+use Rattle.std.specs.Prelude.{position, unwrap_or}
+use Rattle.std.specs.List.{position_or_len}
+use Rattle.std.proofs.lemmas.Bool.Decides.{nat_tests}
+use Rattle.std.proofs.lemmas.List.Quantifiers.{position-Some}
+use Rattle.std.proofs.lemmas.List.Sums.{prefix_len-le-length, prefix_len-drop_yes}
+use Rattle.script.specs.Words.{is_blank, is_letter, before, words_of}
 
-pub run_step : (b : Bool) (cs : List ℕ) (i : ℕ) → i < length cs → run_of b (drop i cs) ≡ cond (same b (is_blank (get_or cs i 0))) (suc (run_of b (drop (i + 1) cs))) 0
-unfolding run_of
-run_step b cs i h = at_drop_more (run_of b) cs i 0 h
+one_more : (n : ℕ) → 1 + n ≡ suc n
+one_more n = omega arith
 
-pub run_end : (b : Bool) (cs : List ℕ) (i : ℕ) → length cs ≤ i → run_of b (drop i cs) ≡ 0
-unfolding run_of
-run_end b cs i h = at_drop_all (run_of b) cs i h
-
--- a run that stops at a byte, goes on past it, or reaches the end
-pub run_stop : (b : Bool) (cs : List ℕ) (i : ℕ) → i < length cs → same b (is_blank (get_or cs i 0)) ≡ false → i + run_of b (drop i cs) ≡ i
-run_stop b cs i h e = rw (run_step b cs i h, e) (omega arith)
-
-pub run_past : (b : Bool) (cs : List ℕ) (i : ℕ) → i < length cs → same b (is_blank (get_or cs i 0)) ≡ true → (i + 1) + run_of b (drop (i + 1) cs) ≡ i + run_of b (drop i cs)
-run_past b cs i h e = rw (run_step b cs i h, e) (omega arith)
-
-pub run-whole : (b : Bool) (cs : List ℕ) (i : ℕ) → length cs ≤ i → i + run_of b (drop i cs) ≡ i
-run-whole b cs i h = rw (run_end b cs i h) (omega arith)
+-- the first place that passes, or the end
+pub end_of : (cs : List ℕ) → unwrap_or (position is_blank cs) (length cs) ≡ position_or_len is_blank cs
+end_of cs =
+    let within = prefix_len-le-length is_letter cs in
+    grind (arith, nat_tests)
 
 -- blanks ahead of the words do not count
-pub blanks_skipped : (cs : List ℕ) → words_of (drop (run_of true cs) cs) ≡ words_of cs
-unfolding run_of words_of
+blanks_skipped : (cs : List ℕ) → words_of (drop (position_or_len is_letter cs) cs) ≡ words_of cs
+unfolding words_of
 blanks_skipped [] = refl
 blanks_skipped (c ∷ cs) = skipped (blanks_skipped cs) (is_blank c) refl
   where
-    skipped : words_of (drop (run_of true cs) cs) ≡ words_of cs → (b : Bool) → is_blank c ≡ b → words_of (drop (cond b (suc (run_of true cs)) 0) (c ∷ cs)) ≡ words_of (c ∷ cs)
-    skipped more true e = rw e more
+    skipped : words_of (drop (position_or_len is_letter cs) cs) ≡ words_of cs → (b : Bool) → is_blank c ≡ b → words_of (drop (cond (not (not b)) (1 + position_or_len is_letter cs) 0) (c ∷ cs)) ≡ words_of (c ∷ cs)
+    skipped more true e = rw (e, one_more (position_or_len is_letter cs)) more
     skipped more false e = refl
 
--- what follows the blanks is no blank
-pub word_follows : (cs : List ℕ) → run_of false (drop (run_of true cs) cs) ≡ 0 → drop (run_of true cs) cs ≡ []
-unfolding run_of
-word_follows [] e = refl
-word_follows (c ∷ cs) e = follows (word_follows cs) (is_blank c) refl e
-  where
-    follows : (run_of false (drop (run_of true cs) cs) ≡ 0 → drop (run_of true cs) cs ≡ []) → (b : Bool) → is_blank c ≡ b → run_of false (drop (cond b (suc (run_of true cs)) 0) (c ∷ cs)) ≡ 0 → drop (cond b (suc (run_of true cs)) 0) (c ∷ cs) ≡ []
-    follows more true e z = more z
-    follows more false e z = absurd (let n : suc (run_of false cs) ≡ 0 = rw e at z in omega arith)
-
 -- a byte that is no blank stands before what follows
-word_grows : (c : ℕ) (cs : List ℕ) → is_blank c ≡ false → (0 < run_of false cs → words_of cs ≡ take (run_of false cs) cs ∷ words_of (drop (run_of false cs) cs)) → words_of (c ∷ cs) ≡ (c ∷ take (run_of false cs) cs) ∷ words_of (drop (run_of false cs) cs)
-unfolding run_of words_of
+word_grows : (c : ℕ) (cs : List ℕ) → is_blank c ≡ false → (0 < position_or_len is_blank cs → words_of cs ≡ take (position_or_len is_blank cs) cs ∷ words_of (drop (position_or_len is_blank cs) cs)) → words_of (c ∷ cs) ≡ (c ∷ take (position_or_len is_blank cs) cs) ∷ words_of (drop (position_or_len is_blank cs) cs)
+unfolding words_of
 word_grows c [] e more = rw e
 word_grows c (d ∷ ds) e more = rw e (grown (is_blank d) refl)
   where
-    grown : (b : Bool) → is_blank d ≡ b → cond (not b) (before c (words_of (d ∷ ds))) ((c ∷ []) ∷ words_of (d ∷ ds)) ≡ (c ∷ take (run_of false (d ∷ ds)) (d ∷ ds)) ∷ words_of (drop (run_of false (d ∷ ds)) (d ∷ ds))
+    grown : (b : Bool) → is_blank d ≡ b → cond (not b) (before c (words_of (d ∷ ds))) ((c ∷ []) ∷ words_of (d ∷ ds)) ≡ (c ∷ take (position_or_len is_blank (d ∷ ds)) (d ∷ ds)) ∷ words_of (drop (position_or_len is_blank (d ∷ ds)) (d ∷ ds))
     grown true f = simp f
     grown false f =
-        let n : 0 < run_of false (d ∷ ds) = rw f (omega arith) in
+        let n : 0 < position_or_len is_blank (d ∷ ds) = rw f (omega arith) in
         ap (before c) (more n)
 
--- the first word is the run at the front
-pub first_word : (cs : List ℕ) → 0 < run_of false cs → words_of cs ≡ take (run_of false cs) cs ∷ words_of (drop (run_of false cs) cs)
-unfolding run_of
+-- the first word goes on to the first blank
+first_word : (cs : List ℕ) → 0 < position_or_len is_blank cs → words_of cs ≡ take (position_or_len is_blank cs) cs ∷ words_of (drop (position_or_len is_blank cs) cs)
 first_word [] h = absurd (omega arith)
 first_word (c ∷ cs) h = first (first_word cs) (is_blank c) refl h
   where
-    first : (0 < run_of false cs → words_of cs ≡ take (run_of false cs) cs ∷ words_of (drop (run_of false cs) cs)) → (b : Bool) → is_blank c ≡ b → 0 < cond (not b) (suc (run_of false cs)) 0 → words_of (c ∷ cs) ≡ take (cond (not b) (suc (run_of false cs)) 0) (c ∷ cs) ∷ words_of (drop (cond (not b) (suc (run_of false cs)) 0) (c ∷ cs))
+    first : (0 < position_or_len is_blank cs → words_of cs ≡ take (position_or_len is_blank cs) cs ∷ words_of (drop (position_or_len is_blank cs) cs)) → (b : Bool) → is_blank c ≡ b → 0 < cond (not b) (1 + position_or_len is_blank cs) 0 → words_of (c ∷ cs) ≡ take (cond (not b) (1 + position_or_len is_blank cs) 0) (c ∷ cs) ∷ words_of (drop (cond (not b) (1 + position_or_len is_blank cs) 0) (c ∷ cs))
     first more true e n = absurd (omega arith)
-    first more false e n = word_grows c cs e more
+    first more false e n = rw (one_more (position_or_len is_blank cs)) (word_grows c cs e more)
 
-pub no_words : words_of [] ≡ []
+blank_line : (cs : List ℕ) → length cs ≤ position_or_len is_letter cs → words_of cs ≡ []
 unfolding words_of
-no_words = refl
+blank_line [] h = refl
+blank_line (c ∷ cs) h = blank (blank_line cs) (is_blank c) refl h
+  where
+    blank : (length cs ≤ position_or_len is_letter cs → words_of cs ≡ []) → (b : Bool) → is_blank c ≡ b → suc (length cs) ≤ cond (not (not b)) (1 + position_or_len is_letter cs) 0 → words_of (c ∷ cs) ≡ []
+    blank more true e n = rw e (more (omega arith))
+    blank more false e n = absurd (omega arith)
+
+-- a line with no letter has no word
+pub no_words : (cs : List ℕ) → position is_letter cs ≡ None → words_of cs ≡ []
+no_words cs e =
+    let past : length cs ≤ position_or_len is_letter cs = grind (arith, nat_tests) in
+    blank_line cs past
+
+-- the first word of a line begins with the first letter
+pub word_from : (cs : List ℕ) (n : ℕ) → position is_letter cs ≡ Some n → (n < length cs) × (words_of cs ≡ take (position_or_len is_blank (drop n cs)) (drop n cs) ∷ words_of (drop (position_or_len is_blank (drop n cs)) (drop n cs)))
+word_from cs n e =
+    let found = position-Some is_letter cs n 0 e in
+    let place : position_or_len is_letter cs ≡ n = grind (arith, nat_tests) in
+    let some : 0 < position_or_len is_blank (drop n cs) = omega (arith, prefix_len-drop_yes is_letter cs n 0 found.0 found.1) in
+    (found.0, sym (blanks_skipped cs) ∙ rw place (first_word (drop n cs) some))

@@ -1,5 +1,6 @@
 -- The marks of a rate request: 63 characters, from RFCI 0 on.
-use Rattle.std.specs.Prelude.{ℕ, Bool, true, cond, ◌&&◌, ◌||◌, List, [], ◌∷◌, map, length, Ok, Err, Result, ◌==◌}
+use Rattle.std.specs.Prelude.{ℕ, Bool, cond, ◌&&◌, ◌||◌, List, map, length, Ok, Err, Result, ◌==◌}
+use Rattle.std.specs.List.{list_all}
 use Rattle.script.specs.declared.unclear.Unclear.{Unclear}
 use Rattle.script.specs.declared.unclear.Unclear.TheVariants.{Value}
 
@@ -11,9 +12,5 @@ is_mark c = c == 48 || c == 49
 abbrev pub bars : ℕ → Bool
 bars c = c == 49
 
-unfoldable pub all_marks : List ℕ → Bool
-all_marks [] = true
-all_marks (c ∷ cs) = is_mark c && all_marks cs
-
 abbrev pub marks_in : List ℕ → Result (List Bool) Unclear
-marks_in word = cond (length word == 63 && all_marks word) (Ok (map bars word)) (Err Value)
+marks_in word = cond (length word == 63 && list_all is_mark word) (Ok (map bars word)) (Err Value)

@@ -1,5 +1,5 @@
 -- The words that name something.
-use Rattle.std.specs.Prelude.{ℕ, Bool, true, false, cond, List, Ok, Err, codes, Result}
+use Rattle.std.specs.Prelude.{ℕ, cond, List, Ok, Err, codes, Result}
 use Rattle.std.specs.Str.{bytes_eq}
 use Rattle.script.specs.declared.unclear.Unclear.{Unclear}
 use Rattle.script.specs.declared.unclear.Unclear.TheVariants.{Name}
@@ -20,16 +20,6 @@ verb_in w =
     (cond (bytes_eq w (codes "radio")) (Ok (At Radio))
     (cond (bytes_eq w (codes "core")) (Ok (At Core)) (Err Name))))))))
 
--- the calls that answer what comes, and those that only look
-abbrev pub answering_in : List ℕ → Result Request Unclear
-answering_in w =
-    cond (bytes_eq w (codes "receive")) (Ok Receive)
-    (cond (bytes_eq w (codes "accept")) (Ok Accept)
-    (cond (bytes_eq w (codes "decline")) (Ok Decline)
-    (cond (bytes_eq w (codes "set")) (Ok Set)
-    (cond (bytes_eq w (codes "tick")) (Ok Tick)
-    (cond (bytes_eq w (codes "take")) (Ok Take) (Err Name))))))
-
 abbrev pub request_in : List ℕ → Result Request Unclear
 request_in w =
     cond (bytes_eq w (codes "open")) (Ok Open)
@@ -38,8 +28,14 @@ request_in w =
     (cond (bytes_eq w (codes "align")) (Ok Align)
     (cond (bytes_eq w (codes "data")) (Ok Data)
     (cond (bytes_eq w (codes "report")) (Ok Report)
-    (cond (bytes_eq w (codes "search")) (Ok Search) (answering_in w)))))))
+    (cond (bytes_eq w (codes "search")) (Ok Search)
+    (cond (bytes_eq w (codes "receive")) (Ok Receive)
+    (cond (bytes_eq w (codes "accept")) (Ok Accept)
+    (cond (bytes_eq w (codes "decline")) (Ok Decline)
+    (cond (bytes_eq w (codes "set")) (Ok Set)
+    (cond (bytes_eq w (codes "tick")) (Ok Tick)
+    (cond (bytes_eq w (codes "take")) (Ok Take) (Err Name)))))))))))))
 
--- one of two names
-abbrev pub choice_in : List ℕ → List ℕ → List ℕ → Result Bool Unclear
-choice_in w first second = cond (bytes_eq w first) (Ok true) (cond (bytes_eq w second) (Ok false) (Err Name))
+-- one of two names, and what each stands for
+abbrev pub choice_in : {T : Type 0} → List ℕ → List ℕ × T → List ℕ × T → Result T Unclear
+choice_in w first second = cond (bytes_eq w first.0) (Ok first.1) (cond (bytes_eq w second.0) (Ok second.1) (Err Name))

@@ -1,43 +1,34 @@
 // The marks of a rate request: one character for each RFCI.
-ghost use Rattle.std.specs.Prelude.{◌≡◌, map, length};
-ghost use Rattle.script.specs.Marks.{is_mark, bars, all_marks, marks_in};
+ghost use Rattle.std.specs.Prelude.{◌≡◌, map};
+ghost use Rattle.std.specs.List.{list_all};
+ghost use Rattle.script.specs.Marks.{is_mark, bars, marks_in};
 
 use crate::unclear::Unclear;
 
 fn is_mark(byte: u8) -> bool
     ensures { result ≡ is_mark byte }
 {
-    byte == b'0' || byte == b'1'
+    matches!(byte, b'0' | b'1')
 }
 
 fn all_marks(word: &[u8]) -> bool
-    ensures { result ≡ all_marks word.now }
+    ensures { result ≡ list_all is_mark word.now }
 {
-    for byte in word {
-        if !is_mark(*byte) {
-            return false;
-        }
-    }
-    true
+    word.iter().all(|byte| is_mark(*byte))
 }
 
-fn bars_of(word: &[u8]) -> [bool; 63]
-    requires { length word.now ≡ 63 }
-    ensures { result ≡ map bars word.now }
+fn bars_of(marks: [u8; 63]) -> [bool; 63]
+    ensures { result ≡ map bars marks }
 {
-    let mut marks = [false; 63];
-    for i in 0..63usize {
-        marks[i] = word[i] == b'1';
-    }
-    marks
+    marks.map(|mark| mark == b'1')
 }
 
 // 63 marks from RFCI 0 on: 1 bars, 0 allows.
 pub fn read_marks(word: &[u8]) -> Result<[bool; 63], Unclear>
     ensures { result ≡ marks_in word.now }
 {
-    if word.len() != 63 || !all_marks(word) {
-        return Err(Unclear::Value);
+    match <[u8; 63]>::try_from(word) {
+        Ok(marks) if all_marks(word) => Ok(bars_of(marks)),
+        _ => Err(Unclear::Value),
     }
-    Ok(bars_of(word))
 }

@@ -1,24 +1,75 @@
 // Decimal numbers.
-ghost use Rattle.std.specs.Prelude.{◌≡◌, ◌≤◌, IfOk};
-ghost use Rattle.script.specs.Numbers.{is_decimal, decimal_on, number_in};
+ghost use Rattle.std.specs.Prelude.{◌≡◌, ℕ, option_map, cond};
+ghost use Rattle.script.specs.Numbers.{decimal_on, number_in, read_as, up_to};
 
 use crate::unclear::Unclear;
 
-fn is_decimal(byte: u8) -> bool
-    ensures { result ≡ is_decimal byte }
-{
-    byte >= b'0' && byte <= b'9'
+// What a number of a line is read into: each type has its greatest number.
+pub trait Number: Sized {
+    ghost most: { ℕ };
+
+    ghost value: { Self → ℕ };
+
+    fn of(number: u64) -> Option<Self>
+        ensures { option_map value result ≡ up_to most number };
+}
+
+// A mark: 0 or 1.
+impl Number for bool {
+    ghost most = { 1 };
+
+    ghost value = { λ mark. cond mark 1 0 };
+
+    fn of(number: u64) -> Option<bool> {
+        match number {
+            0 => Some(false),
+            1 => Some(true),
+            _ => None,
+        }
+    }
+}
+
+// One impl for each size, no plainer by a default body: that would need a law that ties `TryFrom` to `most`, proved at each type.
+impl Number for u8 {
+    ghost most = { 255 };
+
+    ghost value = { λ octet. octet };
+
+    fn of(number: u64) -> Option<u8> {
+        u8::try_from(number).ok()
+    }
+}
+
+impl Number for u16 {
+    ghost most = { 65535 };
+
+    ghost value = { λ number. number };
+
+    fn of(number: u64) -> Option<u16> {
+        u16::try_from(number).ok()
+    }
+}
+
+impl Number for usize {
+    ghost most = { 18446744073709551615 };
+
+    ghost value = { λ number. number };
+
+    fn of(number: u64) -> Option<usize> {
+        usize::try_from(number).ok()
+    }
 }
 
 // The greatest number that one more digit leaves below 10^18.
 const TENTH: u64 = 99_999_999_999_999_999;
 
+// `parse` of std takes a sign, and refuses text that is not UTF-8 before it looks at digits.
 fn decimal(word: &[u8]) -> Option<u64>
     ensures { result ≡ decimal_on 0 word.now }
 {
     let mut value = 0;
     for byte in word {
-        if !is_decimal(*byte) || value > TENTH {
+        if !byte.is_ascii_digit() || value > TENTH {
             return None;
         }
         value = value * 10 + (*byte - b'0') as u64;
@@ -26,32 +77,13 @@ fn decimal(word: &[u8]) -> Option<u64>
     Some(value)
 }
 
-// A number from 0 to `most`.
-pub fn read_number(word: &[u8], most: u64) -> Result<u64, Unclear>
-    ensures is { result ≡ number_in most word.now }
-    ensures few { IfOk result (λ n. n ≤ most) }
+// The number that a word of digits writes, where its type holds it.
+pub fn read_number<N: Number>(word: &[u8]) -> Result<N, Unclear>
+    ensures { read_as N.value result ≡ number_in N.most word.now }
 {
-    if word.len() == 0 {
+    if word.is_empty() {
         return Err(Unclear::Value);
     }
-    match decimal(word) {
-        Some(number) if number <= most => Ok(number),
-        _ => Err(Unclear::Value),
-    }
-}
-
-// A number of one octet.
-pub fn read_octet(word: &[u8]) -> Result<u8, Unclear>
-    ensures { result ≡ number_in 255 word.now }
-{
-    let number = read_number(word, 255)?;
-    Ok(number as u8)
-}
-
-// A number of two octets.
-pub fn read_two_octets(word: &[u8]) -> Result<u16, Unclear>
-    ensures { result ≡ number_in 65535 word.now }
-{
-    let number = read_number(word, 65535)?;
-    Ok(number as u16)
+    let number = decimal(word).ok_or(Unclear::Value)?;
+    N::of(number).ok_or(Unclear::Value)
 }

@@ -1,3 +1,3 @@
 pub mod Subflows
-pub mod Markings
-pub mod Finding
+pub mod Marking
+pub mod Highest

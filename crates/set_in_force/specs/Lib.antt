@@ -1,4 +1,3 @@
 pub mod Places
 pub mod Looks
 pub mod Marks
-pub mod Single

@@ -1,11 +1,12 @@
 -- Marks of combinations.
-use Rattle.std.specs.Prelude.{ℕ, Bool, cond, List, [], ◌∷◌, ◌==◌}
-use Rattle.sets.specs.Rows.{Row}
-
-abbrev pub row_as : Bool → Row → Row
-row_as b r = record { rfci = r.rfci; ipti = r.ipti; sizes = r.sizes; allowed = b }
+use Rattle.std.specs.Prelude.{ℕ, Bool, cond, List, map, ◌==◌}
+use Rattle.sets.specs.Rows.{Row, allowed_as}
+use Rattle.sets.specs.Contents.{Contents}
 
 -- the rows, with the one of this RFCI marked
 unfoldable pub marked : ℕ → Bool → List Row → List Row
-marked n b [] = []
-marked n b (r ∷ rs) = cond (r.rfci == n) (row_as b r) r ∷ marked n b rs
+marked n b rs = map (λ r. cond (r.rfci == n) (allowed_as b r) r) rs
+
+-- the set, with the row of this RFCI marked
+abbrev pub marked_in : ℕ → Bool → Contents → Contents
+marked_in n b c = record { opening = c.opening; combinations = marked n b c.combinations }

@@ -2,10 +2,8 @@
 
 #![tactic(auto)]
 
-mod coming;
 pub mod in_force;
 mod looking;
-mod marking;
 pub mod place;
-pub mod placing;
+mod placing;
 mod searching;

@@ -1,13 +1,10 @@
 -- The ways of adding a row, and what holds of the rows after.
 -- Assumes nothing.
-use Rattle.std.proofs.Common.{◌≡◌, ℕ, ◌+◌, ◌<◌, ◌≤◌, Bool, true, cond, not, ◌&&◌, eqb, List, [], ◌∷◌, ◌++◌, map, length, take, set, Ok, sym, ap, ◌∙◌, arith}
-use Rattle.std.proofs.lemmas.List.{take_more_set, map_push, take_at}
+use Rattle.std.proofs.Common.{◌≡◌, ℕ, ◌<◌, ◌≤◌, Bool, true, cond, not, ◌&&◌, eqb, List, [], ◌∷◌, ◌++◌, length, Ok, sym, arith}
 use Rattle.std.proofs.lemmas.Bool.{eq-eqb, ne_eqb, and_parts, and_from}
 use Rattle.std.proofs.lemmas.Bool.Decides.{nat_tests}
-use Rattle.sets.specs.declared.table.Combination.{Combination}
-use Rattle.sets.specs.declared.table.Table.{Table}
-use Rattle.sets.specs.Rows.{Row, row, rows, bits, fresh, fits, sound, free}
-use Rattle.sets.specs.Drafts.{admitted, entered}
+use Rattle.sets.specs.Rows.{Row, bits, fresh, fits, sound, free}
+use Rattle.sets.specs.Drafts.{admitted}
 
 -- what is known of a row that is admitted
 pub record Admission (n : ℕ) (ti : Bool) (rs : List Row) (r : Row) : Type 0 where
@@ -40,12 +37,6 @@ admitted_none n ti rs r a =
     let g = a.fresh in
     let l = a.room in
     grind (arith, nat_tests)
-
--- a table with one combination more
-pub rows-set : (t : Table) (x : Combination) → t.count < length t.combinations
-    → map (row t.opening.subflows) (take (t.count + 1) (set t.combinations t.count x)) ≡ rows t ++ row t.opening.subflows x ∷ []
-rows-set t x h =
-    ap (map (row t.opening.subflows)) (take_more_set t.combinations t.count x h) ∙ map_push (row t.opening.subflows) (take t.count t.combinations) x
 
 -- sound rows, and one more that is fresh and fits
 fresh_push : (n : ℕ) (rs : List Row) (r : Row) → fresh n rs ≡ true → (r.rfci ≡ n → ⊥) → fresh n (rs ++ r ∷ []) ≡ true
@@ -80,10 +71,3 @@ unfolding free
 free_push [] r h a = rw a
 free_push (x ∷ rs) r h a =
     let p = and_parts x.allowed (free rs) h in and_from x.allowed (free (rs ++ r ∷ [])) p.0 (free_push rs r p.1 a)
-
--- the rows of a table with one combination more, whose sizes stand at the front of seven
-pub entered-rows : (t : Table) (i p : ℕ) (ss xs pad : List ℕ) → t.count < length t.combinations → xs ≡ ss → length ss ≡ t.opening.subflows
-    → map (row t.opening.subflows) (take (t.count + 1) (set t.combinations t.count (record { rfci = i; ipti = p; sizes = xs ++ pad; allowed = true }))) ≡ rows t ++ entered i p ss ∷ []
-entered-rows t i p ss xs pad h e l =
-    let k : take t.opening.subflows (xs ++ pad) ≡ ss = ap (λ (ys : List ℕ). take t.opening.subflows (ys ++ pad)) e ∙ take_at ss pad t.opening.subflows l in
-    rows-set t (record { rfci = i; ipti = p; sizes = xs ++ pad; allowed = true }) h ∙ ap (λ (ys : List ℕ). rows t ++ record { rfci = i; ipti = p; sizes = ys; allowed = true } ∷ []) k

@@ -1,4 +1,4 @@
 pub mod Rows
 pub mod Adds
 pub mod Fitting
-pub mod ClosedRows
+pub mod Tabled

@@ -1,13 +1,9 @@
 -- What adding a combination to a draft does.
-use Rattle.std.specs.Prelude.{ℕ, Bool, true, cond, ◌&&◌, List, [], ◌∷◌, ◌++◌, length, Ok, Err, Result, ◌==◌, nat_le, nat_lt}
+use Rattle.std.specs.Prelude.{ℕ, Bool, cond, ◌&&◌, List, [], ◌∷◌, ◌++◌, length, Ok, Err, Result, ◌==◌, nat_le, nat_lt}
 use Rattle.frames.specs.declared.refusal.Refusal.{Refusal}
 use Rattle.frames.specs.declared.refusal.Refusal.TheVariants.{RfciTaken, Dimensions, TooManyCombinations}
-use Rattle.sets.specs.declared.table.Table.{Table}
-use Rattle.sets.specs.Rows.{Row, rows, bits, fresh}
-
--- the row that is entered is allowed
-abbrev pub entered : ℕ → ℕ → List ℕ → Row
-entered rfci ipti sizes = record { rfci = rfci; ipti = ipti; sizes = sizes; allowed = true }
+use Rattle.sets.specs.Rows.{Row, bits, fresh}
+use Rattle.sets.specs.Contents.{Contents}
 
 -- n sizes, an IPTI of 0 to 15 (0 without TI), and at most 4,000 bits
 abbrev pub sized : ℕ → Bool → ℕ → List ℕ → Bool
@@ -20,11 +16,15 @@ admitted n ti rs r =
     (cond (nat_le r.rfci 62 && fresh r.rfci rs) (cond (nat_lt (length rs) 32) (Ok tt) (Err TooManyCombinations)) (Err RfciTaken))
     (Err Dimensions)
 
--- the same with the opening values and rows of a table
-abbrev pub admitted_to : Table → Row → Result Unit Refusal
-admitted_to t r = admitted t.opening.subflows t.opening.timed (rows t) r
+-- the same with the opening values and rows of a draft
+abbrev pub admitted_to : Contents → Row → Result Unit Refusal
+admitted_to c r = admitted c.opening.subflows c.opening.timed c.combinations r
 
 -- the rows after: one more behind the others, or as they were
 abbrev pub grown : Result Unit Refusal → List Row → Row → List Row
 grown (Ok _) rs r = rs ++ r ∷ []
 grown (Err _) rs r = rs
+
+-- the draft after
+abbrev pub added : Result Unit Refusal → Contents → Row → Contents
+added answer c r = record { opening = c.opening; combinations = grown answer c.combinations r }

@@ -1,7 +1,6 @@
--- What a table says: a list of rows, and what holds of the rows of a set.
-use Rattle.std.specs.Prelude.{◌≡◌, ℕ, ◌+◌, ◌≤◌, Bool, true, cond, not, ◌&&◌, List, [], ◌∷◌, map, length, take, ◌==◌, nat_le}
-use Rattle.sets.specs.declared.table.Combination.{Combination}
-use Rattle.sets.specs.declared.table.Table.{Table}
+-- Combinations as rows, and what holds of the rows of a set.
+use Rattle.std.specs.Prelude.{◌≡◌, ℕ, suc, zero, ◌≤◌, Bool, true, cond, not, ◌&&◌, List, [], ◌∷◌, length, ◌==◌, nat_le}
+use Rattle.std.specs.List.{list_all, sum}
 
 -- a combination: its RFCI, its IPTI, the size of each subflow in bits, and whether it is allowed
 pub record Row : Type 0 where
@@ -10,22 +9,30 @@ pub record Row : Type 0 where
   pub sizes : List ℕ
   pub allowed : Bool
 
--- what a combination of a table of n subflows says
-abbrev pub row : ℕ → Combination → Row
-row n c = record { rfci = c.rfci; ipti = c.ipti; sizes = take n c.sizes; allowed = c.allowed }
+-- what stands in a table behind the last row
+abbrev pub blank : Row
+blank = record { rfci = 0; ipti = 0; sizes = []; allowed = true }
 
-abbrev pub rows : Table → List Row
-rows t = map (row t.opening.subflows) (take t.count t.combinations)
+-- the row that is entered is allowed
+abbrev pub entered : ℕ → ℕ → List ℕ → Row
+entered rfci ipti sizes = record { rfci = rfci; ipti = ipti; sizes = sizes; allowed = true }
+
+abbrev pub allowed_as : Bool → Row → Row
+allowed_as b r = record { rfci = r.rfci; ipti = r.ipti; sizes = r.sizes; allowed = b }
+
+-- the rows, with the one at this place allowed or barred
+unfoldable pub marked_at : ℕ → Bool → List Row → List Row
+marked_at i b [] = []
+marked_at zero b (r ∷ rs) = allowed_as b r ∷ rs
+marked_at (suc i) b (r ∷ rs) = r ∷ marked_at i b rs
 
 -- the bits of all sizes
 unfoldable pub bits : List ℕ → ℕ
-bits [] = 0
-bits (s ∷ ss) = s + bits ss
+bits ss = sum ss
 
 -- no row has this RFCI
 unfoldable pub fresh : ℕ → List Row → Bool
-fresh n [] = true
-fresh n (r ∷ rs) = not (r.rfci == n) && fresh n rs
+fresh n rs = list_all (λ r. not (r.rfci == n)) rs
 
 -- a row that a set of n subflows may have: n sizes, an IPTI of 0 to 15 (0 without TI), at most 4,000 bits, an RFCI of 0 to 62
 unfoldable pub fits : ℕ → Bool → Row → Bool
@@ -38,15 +45,7 @@ sound n ti (r ∷ rs) = fits n ti r && (fresh r.rfci rs && sound n ti rs)
 
 -- every row is allowed
 unfoldable pub free : List Row → Bool
-free [] = true
-free (r ∷ rs) = r.allowed && free rs
-
--- the same of a table, for the structs that hold one
-abbrev pub table_sound : Table → Bool
-table_sound t = sound t.opening.subflows t.opening.timed (rows t)
-
-abbrev pub table_free : Table → Bool
-table_free t = free (rows t)
+free rs = list_all (λ r. r.allowed) rs
 
 -- what holds of a set: N 1 to 7, data PDU type 0 or 1, 1 to 32 rows, and they are sound
 pub record Sound (n : ℕ) (ti : Bool) (type : ℕ) (rs : List Row) : Type 0 where
@@ -56,7 +55,3 @@ pub record Sound (n : ℕ) (ti : Bool) (type : ℕ) (rs : List Row) : Type 0 whe
   pub rows : 1 ≤ length rs
   pub room : length rs ≤ 32
   pub sound : sound n ti rs ≡ true
-
--- the same of a table
-abbrev pub SoundTable : Table → Type 0
-SoundTable t = Sound t.opening.subflows t.opening.timed t.opening.data_type (rows t)

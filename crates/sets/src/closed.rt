@@ -1,15 +1,88 @@
-// A closed set: what links and data rely on holds of every value of this type.
-ghost use Rattle.std.specs.Prelude.{◌≡◌, ◌≤◌, true, length};
-ghost use Rattle.sets.specs.Rows.{table_sound, table_free};
+// Drafts closed into sets. What links and data rely on holds of every set, since closing a draft is the only way to one.
+ghost use Rattle.std.specs.Prelude.{◌≡◌, true};
+ghost use Rattle.sets.specs.Rows.{free};
+ghost use Rattle.sets.specs.Closing.{closed_by, placed_by};
+ghost use Rattle.sets.specs.Contents.{SoundSet};
+ghost use Rattle.sets.specs.Tables.{contents, SoundTable};
 
+use super::combination::Combination;
+use super::draft::Draft;
+use super::opening::Opening;
 use super::table::Table;
+use frames::refusal::Refusal;
+use std::marker::Model;
 
+// An empty draft that was not closed: its opening values are handed back.
+#[derive(Clone, Copy, PartialEq, Eq, Debug)]
+pub struct Unclosed {
+    pub opening: Opening,
+    pub refusal: Refusal,
+}
+
+// A closed set.
 #[derive(Clone, Copy)]
 pub struct Set {
-    pub table: Table,
-    ghost some: { 1 ≤ table.count },
-    ghost whole: { length table.combinations ≡ 32 },
-    ghost room: { table.count ≤ 32 },
-    ghost sound: { table_sound table ≡ true },
-    ghost free: { table_free table ≡ true },
+    table: Table,
+}
+
+impl Model for Set {
+    ghost use Rattle.std.specs.Prelude.{◌≡◌, ◌≤◌, true, length};
+    ghost use Rattle.sets.specs.Rows.{free};
+    ghost use Rattle.sets.specs.Contents.{Contents};
+    ghost use Rattle.sets.specs.Tables.{rows, contents, table_of, SoundTable};
+
+    ghost Value = { Contents };
+
+    ghost view = { λ s. contents s.table };
+
+    ghost invariant = { λ s. SoundTable s.table × (1 ≤ length (rows s.table)) × (free (rows s.table) ≡ true) };
+
+    ghost inverse = { λ c. record { table = table_of c } };
+}
+
+impl Set {
+    pub fn opening(&self) -> Opening
+        ensures { result ≡ self.now.opening }
+    {
+        self.table.opening()
+    }
+
+    // The combinations, the first one first.
+    pub fn rows(&self) -> &[Combination]
+        ensures rows { result.now ≡ self.now.combinations }
+        ensures sound { SoundSet self.now }
+        ensures free { free self.now.combinations ≡ true }
+    {
+        self.table.rows()
+    }
+
+    // The table of the set, which is no set any more.
+    pub fn into_table(self) -> Table
+        ensures is { contents result ≡ self }
+        ensures sound { SoundTable result }
+        ensures closed { SoundSet self }
+        ensures free { free self.combinations ≡ true }
+    {
+        let Set { table } = self;
+        table
+    }
+}
+
+impl Draft {
+    // The closed set goes into `place`, which is lent, so that no table moves in an answer that may refuse: a form asked for.
+    // Where the draft is empty, `place` stays as it was.
+    pub fn close(self, place: &mut Option<Set>) -> Result<(), Unclosed>
+        ensures answer { result ≡ closed_by self }
+        ensures place { place.new ≡ placed_by self place.old }
+    {
+        let table = self.into_table();
+        if table.rows().is_empty() {
+            return Err(Unclosed {
+                opening: table.opening(),
+                refusal: Refusal::NoCombination,
+            });
+        }
+        *place = Some(Set { table });
+        Ok(())
+    }
 }

@@ -3,10 +3,8 @@
 #![tactic(auto)]
 
 pub mod closed;
-pub mod closing;
+pub mod combination;
 pub mod draft;
-mod drafting;
-mod marking;
+pub mod limits;
 pub mod opening;
-mod starting;
 pub mod table;

@@ -6,17 +6,22 @@
 
 #![tactic(auto)]
 
+mod bench;
 mod orders;
 mod showing;
 
-use orders::Bench;
+use bench::Bench;
+use orders::read_order;
 use std::io;
 
 fn main(rt: HostRuntime) -> io::Result<()> {
     let mut bench = Bench::new();
     for line in rt.lines(rt.alloc()) {
-        bench = bench.obey(&rt, line?.as_str())?;
+        let order = read_order(&rt, line?.as_str())?;
+        match order.and_then(|order| bench.obey(order)) {
+            Ok(answer) => print!(rt; "{answer}")?,
+            Err(complaint) => println!(rt; "{complaint}")?,
+        }
     }
-    let Bench { .. } = bench;
     Ok(())
 }

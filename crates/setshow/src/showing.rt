@@ -1,67 +1,107 @@
-// What is shown of a set.
+// What is shown of an order and of a set.
+use crate::bench::{Answer, Complaint};
 use frames::extent::octets_for;
 use frames::number::Number;
-use frames::refusal::Refusal;
 use link_building::building::link_count;
 use link_frames::framing::link_frame;
 use set_in_force::in_force::InForce;
-use set_in_force::place::Places;
+use set_in_force::place::Found;
 use sets::closed::Set;
-use std::io;
+use std::fmt;
 
-pub(crate) fn show_refusal(rt: &HostRuntime, refusal: Refusal) -> io::Result<()> {
-    let number = refusal.number();
-    println!(rt; "no {number}")
+// Octets in hexadecimal.
+#[derive(Clone, Copy)]
+struct Hex<'a> {
+    octets: &'a [u8],
 }
 
-fn show_link(rt: &HostRuntime, set: &Set, number: Number) -> io::Result<()> {
-    match link_frame(set, number) {
-        Ok(frame) => {
-            let k = number.value;
-            print!(rt; "link {k} ")?;
-            for octet in frame.as_slice() {
-                print!(rt; "{octet:02X}")?;
+impl<'a> fmt::Display for Hex<'a> {
+    fn fmt<W: fmt::Write>(&self, f: &mut fmt::Formatter<W>) -> fmt::Result {
+        for octet in self.octets {
+            write!(f, "{octet:02X}")?;
+        }
+        Ok(())
+    }
+}
+
+// The links of a set as frames, one to a line.
+#[derive(Clone, Copy)]
+struct Links<'a> {
+    set: &'a Set,
+}
+
+impl<'a> fmt::Display for Links<'a> {
+    fn fmt<W: fmt::Write>(&self, f: &mut fmt::Formatter<W>) -> fmt::Result {
+        // k is the number of the link that is asked for and shown: nothing is indexed
+        for k in 0..link_count(self.set) {
+            match link_frame(self.set, Number { value: k }) {
+                Ok(frame) => writeln!(
+                    f,
+                    "link {k} {}",
+                    Hex {
+                        octets: frame.as_slice()
+                    }
+                )?,
+                Err(refusal) => writeln!(f, "no {refusal}")?,
             }
-            println!(rt; "")
         }
-        Err(refusal) => show_refusal(rt, refusal),
+        Ok(())
     }
 }
 
-fn show_places(rt: &HostRuntime, places: &Places) -> io::Result<()> {
-    for subflow in 0..7usize {
-        let Some(place) = places.get(subflow) else {
-            break;
-        };
-        let first = place.first;
-        let bits = place.bits;
-        print!(rt; " {first}+{bits}")?;
-    }
-    println!(rt; "")
+// Where the subflows of a combination lie, and how long they are.
+#[derive(Clone, Copy)]
+struct Subflows<'a> {
+    found: &'a Found,
 }
 
-fn show_combinations(rt: &HostRuntime, set: &InForce) -> io::Result<()> {
-    for index in 0..32usize {
-        let Some(rfci) = set.rfci_at(index) else {
-            break;
-        };
-        let Some(entry) = set.look_up(rfci) else {
-            break;
-        };
-        let bits = entry.bits;
-        let octets = octets_for(bits as usize);
-        print!(rt; "RFCI {rfci}: {bits} bits, {octets} octets:")?;
-        show_places(rt, &entry.places)?;
+impl<'a> fmt::Display for Subflows<'a> {
+    fn fmt<W: fmt::Write>(&self, f: &mut fmt::Formatter<W>) -> fmt::Result {
+        let bits = self.found.bits;
+        write!(f, "{bits} bits, {} octets:", octets_for(bits as usize))?;
+        for place in self.found.places.as_slice() {
+            write!(f, " {}+{}", place.first, place.bits)?;
+        }
+        Ok(())
     }
-    Ok(())
 }
 
-// The links as frames, then the place and length in bits of each subflow.
-pub(crate) fn show_set(rt: &HostRuntime, set: &Set, in_force: &InForce) -> io::Result<()> {
-    for k in 0..link_count(set) {
-        if let Ok(number) = Number::new(k) {
-            show_link(rt, set, number)?;
+// The combinations of a set in force, one to a line.
+#[derive(Clone, Copy)]
+struct Combinations<'a> {
+    set: &'a InForce,
+}
+
+impl<'a> fmt::Display for Combinations<'a> {
+    fn fmt<W: fmt::Write>(&self, f: &mut fmt::Formatter<W>) -> fmt::Result {
+        for row in self.set.rows() {
+            let rfci = row.rfci();
+            if let Some(found) = self.set.look_up(rfci) {
+                writeln!(f, "RFCI {rfci}: {}", Subflows { found: &found })?;
+            }
+        }
+        Ok(())
+    }
+}
+
+impl fmt::Display for Answer {
+    fn fmt<W: fmt::Write>(&self, f: &mut fmt::Formatter<W>) -> fmt::Result {
+        match self {
+            Answer::Done => writeln!(f, "ok"),
+            Answer::Closed { set, in_force } => {
+                write!(f, "{}{}", Links { set }, Combinations { set: in_force })
+            }
+            Answer::Found { rfci } => writeln!(f, "RFCI {rfci}"),
         }
     }
-    show_combinations(rt, in_force)
+}
+
+impl fmt::Display for Complaint {
+    fn fmt<W: fmt::Write>(&self, f: &mut fmt::Formatter<W>) -> fmt::Result {
+        match self {
+            Complaint::Unclear => write!(f, "what?"),
+            Complaint::NoDraft => write!(f, "no draft"),
+            Complaint::Refused(refusal) => write!(f, "no {refusal}"),
+        }
+    }
 }

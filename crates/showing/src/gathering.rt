@@ -1,15 +1,73 @@
-// A line that comes byte by byte, held in fixed memory however long it is.
-ghost use Rattle.std.specs.Prelude.{◌≤◌};
+// A line of hexadecimal that comes byte by byte, read into fixed memory however long it is.
+ghost use Rattle.std.specs.Prelude.{◌≡◌, ℕ, List, [], ◌∷◌, ◌++◌};
+ghost use Rattle.showing.specs.Shown.{shown, gathered, joined};
 
-// The most bytes that are kept: the digits of the longest frame. What is longer is refused, and only counted.
-pub const KEPT: usize = 1024;
+use frames::header::{Header, read_header};
+use frames::hex::read_pair;
+use frames::octets::Octets;
+use frames::refusal::Refusal;
 
-#[derive(Clone, Copy)]
+#[derive(Clone, Copy, PartialEq, Eq, Debug)]
 pub struct Gathered {
-    pub(crate) kept: [u8; 1024],
-    // how many bytes came; past the kept ones, 1025 or 1026, whichever is odd or even as the count is
-    pub(crate) count: usize,
-    // whether each of them was a digit
-    pub(crate) digits: bool,
-    ghost capped: { count ≤ 1026 },
+    // the octets of the pairs that came, or why there are none
+    frame: Result<Octets, Refusal>,
+    // the byte that waits for the other one of its pair
+    first: Option<u8>,
+}
+
+impl Gathered {
+    #[tactic(auto, unfolding(frames::specs::Hex::octets_in))]
+    pub fn new() -> Gathered
+        ensures { result ≡ gathered [] }
+    {
+        Gathered {
+            frame: Ok(Octets::new()),
+            first: None,
+        }
+    }
+
+    // One byte more, whatever it is.
+    #[tactic(auto, using(crate::proofs::Bytewise::second))]
+    pub fn push(&mut self, byte: u8)
+        ensures { (line : List ℕ) → self.old ≡ gathered line → self.new ≡ gathered (line ++ byte ∷ []) }
+    {
+        match self.first {
+            None => self.first = Some(byte),
+            Some(first) => {
+                self.first = None;
+                join(&mut self.frame, read_pair(first, byte));
+            }
+        }
+    }
+
+    // What is shown of the line that was gathered, as if it had come whole.
+    pub fn show(&self) -> Result<Header, Refusal>
+        ensures { (line : List ℕ) → self.now ≡ gathered line → result ≡ shown line }
+    {
+        if self.first.is_some() {
+            return Err(Refusal::Hexadecimal);
+        }
+        let octets = self.frame?;
+        read_header(octets.as_slice())
+    }
+}
+
+// One octet more. A strange digit is told before all else, and what is too long stays so.
+fn join(frame: &mut Result<Octets, Refusal>, octet: Result<u8, Refusal>)
+    ensures { frame.new ≡ joined frame.old octet }
+{
+    match octet {
+        Ok(octet) => add(frame, octet),
+        Err(refusal) => *frame = Err(refusal),
+    }
+}
+
+fn add(frame: &mut Result<Octets, Refusal>, octet: u8)
+    ensures { frame.new ≡ joined frame.old (Ok octet) }
+{
+    if let Ok(octets) = frame {
+        if let Err(refusal) = octets.push(octet) {
+            *frame = Err(refusal);
+        }
+    }
 }

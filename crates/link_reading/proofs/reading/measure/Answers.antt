@@ -1,40 +1,40 @@
-use Rattle.std.proofs.Common.{◌≡◌, ℕ, ◌+◌, ◌-◌, length, drop, sym, ap, ◌∙◌, arith}
-use Rattle.link_reading.specs.Layout.{extent, onward, width}
-use Rattle.link_reading.proofs.Steps.{extent_short, extent_last, extent_more, extent_end, onward_twice}
+use Rattle.std.proofs.Common.{rules, ◌≡◌, ◌+◌, ◌-◌, ◌<◌, ◌∙◌, length, take, drop, sym, ap, arith}
+use Rattle.std.proofs.lemmas.List.{take_rest, drop-drop}
+use Rattle.link_reading.specs.Layout.{width}
+use Rattle.link_reading.proofs.Steps.{measured_short, measured_last, measured_more, measured_none}
 use Rattle.link_reading.proofs.reading.measure.Goals as goal
 
-pub returns-then-octets-at : goal.returns-then-octets-at
-returns-then-octets-at c =
-    let os = c.args.octets.now in
-    let l = c.loop-at in
-    let v = c.width_of-width.ensures ∙ ap (width c.args.subflows) c.has_wide.ensures in
-    let s = extent_short (length os - l.count) c.args.subflows os l.at c.width_of-width.result (omega arith) (omega arith) v (omega arith) in
-    record { is = sym (ap (onward l.count l.at) s) ∙ l.invariant.0; within = tt }
+pub returns-in_err-rest-clause-is : goal.returns-in_err-rest-clause-is
+returns-in_err-rest-clause-is c =
+    let v = c.width_of.ensures ∙ ap (width c.args.subflows) c.has_wide.ensures in
+    let s : length c.loop-rest.rest.now < 1 + c.width_of.result = search rules in
+    c.from_residual.ensures ∙ measured_short c.loop-rest.count _ c.args.subflows c.width_of.result _ c.loop-rest.rest.now _ c.loop-rest.invariant.0 (omega arith) (omega arith) v s
 
-pub returns-then-is_last : goal.returns-then-is_last
-returns-then-is_last c =
+pub returns-then-is_last-clause-is : goal.returns-then-is_last-clause-is
+returns-then-is_last-clause-is c =
     let os = c.args.octets.now in
-    let l = c.loop-at in
-    let v = c.width_of-width.ensures ∙ ap (width c.args.subflows) c.has_wide.ensures in
-    let s = extent_last (length os - l.count) c.args.subflows os l.at c.width_of-width.result (omega arith) (omega arith) v (omega arith) (sym c.if-is_last.ensures) in
-    record { is = sym (ap (onward l.count l.at) s) ∙ l.invariant.0; within = (omega arith, omega arith) }
+    let l = c.loop-rest.rest.now in
+    let w = c.width_of.result in
+    let r = c.in_ok-rest.rest.now in
+    let v = c.width_of.ensures ∙ ap (width c.args.subflows) c.has_wide.ensures in
+    let s : length r + (1 + w) ≡ length l = search rules in
+    measured_last c.loop-rest.count _ c.args.subflows w _ (length os - length r) l _ c.loop-rest.invariant.0 (omega arith) (omega arith) v (omega arith) (sym c.if-is_last.ensures) (omega arith)
 
-pub loop-at-preserved : goal.loop-at-preserved
-loop-at-preserved c =
+pub loop-rest-preserved : goal.loop-rest-preserved
+loop-rest-preserved c =
     let os = c.args.octets.now in
-    let l = c.loop-at in
-    let n = c.args.subflows in
-    let w = c.width_of-width.result in
-    let v = c.width_of-width.ensures ∙ ap (width n) c.has_wide.ensures in
-    let s = extent_more (length os - l.count) n os l.at w (omega arith) (omega arith) v (omega arith) (sym c.if-is_last.ensures) in
-    let z : length os - l.count - 1 ≡ length os - (l.count + 1) = omega arith in
-    let t = onward_twice l.count l.at (1 + w) (extent (length os - l.count - 1) n (drop (l.at + (1 + w)) os)) in
-    let u = ap (λ (f : ℕ). onward (l.count + 1) (l.at + (1 + w)) (extent f n (drop (l.at + (1 + w)) os))) z in
-    (sym u ∙ sym t ∙ sym (ap (onward l.count l.at) s) ∙ l.invariant.0, omega arith, omega arith)
+    let l = c.loop-rest.rest.now in
+    let w = c.width_of.result in
+    let r = c.in_ok-rest.rest.now in
+    let v = c.width_of.ensures ∙ ap (width c.args.subflows) c.has_wide.ensures in
+    let s : length r + (1 + w) ≡ length l = search rules in
+    let t = take (length l - 1) (drop 1 l) in
+    let d1 : r ≡ take (length t - w) (drop w t) = search rules in
+    let d0 : r ≡ drop w t = d1 ∙ take_rest t w in
+    let d : r ≡ drop (1 + w) l = d0 ∙ ap (drop w) (take_rest l 1) ∙ drop-drop w 1 l in
+    let z : length os - c.loop-rest.count - 1 ≡ length os - (c.loop-rest.count + 1) = omega arith in
+    let m = measured_more c.loop-rest.count (length os - c.loop-rest.count) c.args.subflows w _ (length os - length r) l r _ c.loop-rest.invariant.0 (omega arith) (omega arith) v (omega arith) (sym c.if-is_last.ensures) (omega arith) d in
+    (rw z at m, omega arith)
 
-pub returns : goal.returns
-returns c =
-    let os = c.args.octets.now in
-    let l = c.loop-at in
-    let s = extent_end (length os - l.count) c.args.subflows os l.at (omega arith) in
-    record { is = sym (ap (onward l.count l.at) s) ∙ l.invariant.0; within = tt }
+pub returns-clause-is : goal.returns-clause-is
+returns-clause-is c = measured_none c.loop-rest.count _ c.args.subflows _ c.loop-rest.rest.now _ c.loop-rest.invariant.0 (omega arith)

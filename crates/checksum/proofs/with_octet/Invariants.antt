@@ -1,8 +1,0 @@
-use Rattle.std.proofs.Common.{◌≡◌, ◌^◌, ◌<◌}
-use Rattle.checksum.specs.Division.{bits_of, parity}
-use Rattle.checksum.proofs.with_octet.Given as goal
-
-abbrev pub invariant-loop-place : goal.invariant-loop-place
-invariant-loop-place l =
-    (parity l.width l.generator l.sum (bits_of l.place l.octet) ≡ parity l.width l.generator l.initial.sum (bits_of 8 l.octet))
-    × (l.sum < 2 ^ l.width)

@@ -1,8 +1,0 @@
-use Rattle.std.proofs.Common.{refl}
-use Rattle.checksum.specs.Division.{bits_of, octet_bits, reduced, parity, parity_of}
-use Rattle.link_building.specs.Wire.{payload, combinations, combination, wide, sizes_octets, size_octets, nibbles}
-use Rattle.link_frames.proofs.framing.worked.Goals as goal
-
-pub returns : goal.returns
-unfolding payload combinations combination wide sizes_octets size_octets nibbles bits_of octet_bits reduced parity parity_of
-returns c = refl

@@ -1,0 +1,81 @@
+// What lies on the bench, and what comes of an order.
+use crate::orders::Order;
+use frames::refusal::Refusal;
+use set_in_force::in_force::InForce;
+use sets::closed::Set;
+use sets::draft::Draft;
+use sets::opening::Opening;
+
+// A draft, and the set that was closed last.
+#[derive(Drop)]
+pub struct Bench {
+    draft: Option<Draft>,
+    set: Option<InForce>,
+}
+
+#[derive(Clone, Copy)]
+pub enum Answer {
+    Done,
+    Closed { set: Set, in_force: InForce },
+    Found { rfci: u8 },
+}
+
+#[derive(Clone, Copy)]
+pub enum Complaint {
+    Unclear,
+    NoDraft,
+    Refused(Refusal),
+}
+
+impl From<Refusal> for Complaint {
+    fn from(refusal: Refusal) -> Complaint {
+        Complaint::Refused(refusal)
+    }
+}
+
+impl Bench {
+    pub(crate) fn new() -> Bench {
+        Bench {
+            draft: None,
+            set: None,
+        }
+    }
+
+    // An empty draft comes back as its opening values, and is opened again from them.
+    fn close(&mut self) -> Result<Answer, Complaint> {
+        let draft = self.draft.take().ok_or(Complaint::NoDraft)?;
+        let mut place: Option<Set> = None;
+        if let Err(back) = draft.close(&mut place) {
+            self.draft = Some(Draft::open(back.opening));
+            return Err(Complaint::Refused(back.refusal));
+        }
+        let set = place.ok_or(Complaint::NoDraft)?;
+        let in_force = InForce::from_set(set);
+        self.set = Some(in_force);
+        Ok(Answer::Closed { set, in_force })
+    }
+
+    pub(crate) fn obey(&mut self, order: Order) -> Result<Answer, Complaint> {
+        match order {
+            Order::Draft {
+                subflows,
+                timed,
+                data_type,
+            } => {
+                self.draft = Some(Draft::open(Opening::new(subflows, timed, data_type)?));
+                Ok(Answer::Done)
+            }
+            Order::Add { rfci, ipti, sizes } => {
+                let draft = self.draft.as_mut().ok_or(Complaint::NoDraft)?;
+                draft.add(rfci, ipti, &sizes)?;
+                Ok(Answer::Done)
+            }
+            Order::Close => self.close(),
+            Order::Find { sizes } => {
+                let set = self.set.ok_or(Complaint::Refused(Refusal::WrongPhase))?;
+                let rfci = set.search(&sizes)?;
+                Ok(Answer::Found { rfci })
+            }
+        }
+    }
+}
