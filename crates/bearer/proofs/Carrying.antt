@@ -96,7 +96,7 @@ module _ (s : Settings) (d : Data) (t : Delivery) where
   borne_on : (o : Option Force) → told_on s d o ≡ Ok t → Borne (standing o) (t ∷ [])
   borne_on None h = let z : ◌≡◌ {A = ℕ} 0 1 = cc in absurd (omega arith)
   borne_on (Some x) h =
-      cond_both (eqb (data_number d.header.data_type) x.set.opening.kind) _ _ (λ r. r ≡ Ok t → Borne (Some x.set) (t ∷ []))
+      cond_both (eqb (data_number d.header.data_type) (data_number x.set.opening.data_type)) _ _ (λ r. r ≡ Ok t → Borne (Some x.set) (t ∷ []))
       (λ _ e. (cut_of x (looked_up d.header.rfci x.set.combinations) refl e, tt))
       (λ _ e. let z : ◌≡◌ {A = ℕ} 0 1 = cc in absurd (omega arith)) h
 

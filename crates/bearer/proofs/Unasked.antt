@@ -13,7 +13,6 @@ use Rattle.reports.specs.declared.ending.Kind.{Kind}
 use Rattle.reports.specs.declared.ending.Kind.TheVariants.{Initialisation, RateControl, TimeAlignment, HostQuestion}
 use Rattle.exchange.specs.Books.{Mark, asked, procedure_of, question}
 use Rattle.bearer.specs.Bearing.{Force}
-use Rattle.sets.specs.Openings.{data_type_of}
 use Rattle.bearer.specs.Traffics.{framed_as}
 
 strange : (n : ℕ) → cond {A = List Mark} (eqb ((224 + n) / 4) 56 && false) (asked ((224 + n) % 4) ∷ []) [] ≡ []
@@ -48,4 +47,4 @@ bland_data type number fqc rfci bits payload =
 
 pub bland_as : (rfci fqc : ℕ) (payload : List ℕ) (x : Force) (o : Option Found) → Bland (framed_as rfci fqc payload x o)
 bland_as rfci fqc payload x None = tt
-bland_as rfci fqc payload x (Some c) = cond_both c.allowed _ _ Bland (λ _. bland_data (data_type_of x.set.opening.kind) x.sending fqc rfci c.bits payload) (λ _. tt)
+bland_as rfci fqc payload x (Some c) = cond_both c.allowed _ _ Bland (λ _. bland_data x.set.opening.data_type x.sending fqc rfci c.bits payload) (λ _. tt)

@@ -1,8 +1,7 @@
 -- Error events that an end sends.
-use Rattle.std.specs.Prelude.{ℕ, ◌+◌, ◌%◌, Bool, [], ◌∷◌, length, Some, None, Ok, Err, Option, Result, nat_lt, if◌then◌else◌}
+use Rattle.std.specs.Prelude.{ℕ, ◌+◌, ◌%◌, Bool, List, [], ◌∷◌, length, Some, None, Ok, Err, Option, Result, nat_lt, if◌then◌else◌}
 use Rattle.frames.specs.declared.refusal.Refusal.{Refusal}
 use Rattle.frames.specs.declared.refusal.Refusal.TheVariants.{HeaderChecksum, PayloadChecksum, PduType, Procedure, ReservedValue, TooShort, UnexpectedPduType, UnexpectedProcedure, UnknownRfci, UnexpectedValue, ModeVersion, TooLong, SettingRange, HostHoldsQuestion, NotThisQuestion, LinkTooLong, LineDeclines, WrongPhase, AlreadyRuns, RfciBarred, OctetCount, RfciTaken, Dimensions, TooManyCombinations, NoCombination, ValueRange, Hexadecimal, NoSuchSizes, BufferTooSmall}
-use Rattle.frames.specs.declared.cause.Cause.{Cause}
 use Rattle.frames.specs.Refusals.{number_of}
 use Rattle.building.specs.Building.{error_frame}
 use Rattle.reports.specs.declared.happening.Happening.{Happening}
@@ -13,6 +12,10 @@ use Rattle.bearer.specs.Bearing.{Bearing}
 
 abbrev pub event_used : Bearing → Bearing
 event_used b = record b { events = (b.events + 1) % 4 }
+
+-- an error event goes out, and its number is used up
+abbrev pub passes_event : (ℕ → Bool) → List ℕ → Bearing → Effect Bearing (Unit {0})
+passes_event takes frame b = record { next = event_used b; says = sending (takes (length frame)) frame ∷ []; answer = tt }
 
 -- an error event of the end's own, distance 0: it is lost where the line does not take it, and its number is used up all the same
 abbrev pub event : (ℕ → Bool) → ℕ → Bearing → Happening
@@ -52,10 +55,6 @@ cause_of ValueRange = None
 cause_of Hexadecimal = None
 cause_of NoSuchSizes = None
 cause_of BufferTooSmall = None
-
-abbrev pub value_of : Option Cause → Option ℕ
-value_of None = None
-value_of (Some c) = Some c.value
 
 -- a received frame is refused; where the refusal goes back, an error event tells its cause
 abbrev pub objects_by : {A : Type 0} → (ℕ → Bool) → Option ℕ → Refusal → Bearing → Effect Bearing (Result A Refusal)

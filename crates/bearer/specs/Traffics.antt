@@ -6,7 +6,6 @@ use Rattle.frames.specs.declared.refusal.Refusal.{Refusal}
 use Rattle.frames.specs.declared.refusal.Refusal.TheVariants.{WrongPhase, RfciBarred, LineDeclines, UnexpectedPduType, UnknownRfci, TooShort, UnexpectedValue, PayloadChecksum}
 use Rattle.frames.specs.Extent.{octets_for}
 use Rattle.frames.specs.DataTypes.{data_number}
-use Rattle.sets.specs.Openings.{data_type_of}
 use Rattle.set_in_force.specs.declared.place.Found.{Found}
 use Rattle.set_in_force.specs.Looks.{looked_up, Searched}
 use Rattle.payloads.specs.Checks.{summed}
@@ -37,7 +36,7 @@ tick_passed b = with_force (time_passed b.settings.numbering b.force) b
 -- the next frame: no such combination, or a barred one; what cannot be built
 abbrev pub framed_as : (rfci fqc : ℕ) → List ℕ → Force → Option Found → Result (List ℕ) Refusal
 framed_as rfci fqc payload x None = Err RfciBarred
-framed_as rfci fqc payload x (Some c) = if c.allowed then user_data (data_type_of x.set.opening.kind) x.sending fqc rfci c.bits payload else Err RfciBarred
+framed_as rfci fqc payload x (Some c) = if c.allowed then user_data x.set.opening.data_type x.sending fqc rfci c.bits payload else Err RfciBarred
 
 abbrev pub frame_for : (rfci fqc : ℕ) → List ℕ → Force → Result (List ℕ) Refusal
 frame_for rfci fqc payload x = framed_as rfci fqc payload x (looked_up rfci x.set.combinations)
@@ -111,7 +110,7 @@ brought_of s d x None = Err UnknownRfci
 brought_of s d x (Some c) = brought_with d s.numbering x c (fitted (length d.payload) c.bits) (quality_of s.keep_damaged d)
 
 abbrev pub judged : Settings → Data → Force → Result Delivery Refusal
-judged s d x = if data_number d.header.data_type == x.set.opening.kind then brought_of s d x (looked_up d.header.rfci x.set.combinations) else Err UnexpectedPduType
+judged s d x = if data_number d.header.data_type == data_number x.set.opening.data_type then brought_of s d x (looked_up d.header.rfci x.set.combinations) else Err UnexpectedPduType
 
 -- what is delivered counts
 abbrev pub counted : Numbering → Data → Result Delivery Refusal → Force → Force

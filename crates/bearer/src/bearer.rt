@@ -1,4 +1,5 @@
 // What an end holds beside its line and its procedures.
+// Line and report come apart into its calls: the line is the end's, the report the caller's, and a struct of both would be made only to be taken apart.
 ghost use Rattle.std.specs.Prelude.{◌≡◌, Some, None, option_map};
 ghost use Rattle.bearer.specs.Bearing.{opened, with_force, in_force, standing};
 
@@ -27,7 +28,7 @@ impl Model for Bearer {
 
     ghost Value = { Bearing };
 
-    ghost view = { λ b. record { settings = b.settings; events = b.events.value; force = b.traffic } };
+    ghost view = { λ b. record { settings = b.settings; events = b.events; force = b.traffic } };
 }
 
 impl Bearer {
@@ -35,9 +36,16 @@ impl Bearer {
     pub fn new(settings: Settings) -> Bearer
         ensures { result ≡ opened settings }
     {
+        Bearer::numbered(settings, Number::first())
+    }
+
+    // The same, with the number of the first error event as its owner gives it: one that takes the place of another goes on from there.
+    pub fn numbered(settings: Settings, events: Number) -> Bearer
+        ensures { result ≡ record (opened settings) { events = events } }
+    {
         Bearer {
             settings,
-            events: Number::first(),
+            events,
             traffic: None,
         }
     }

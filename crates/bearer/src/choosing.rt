@@ -18,13 +18,11 @@ impl Settings {
     ) -> Result<Settings, Refusal>
         ensures { as_chosen result ≡ chosen_in initialisation rate alignment numbering keep_damaged mark }
     {
-        let initialisation = Limits::new(initialisation.ticks, initialisation.repeats)?;
-        let rate = Limits::new(rate.ticks, rate.repeats)?;
-        let alignment = Limits::new(alignment.ticks, alignment.repeats)?;
+        let limits = |timing: Timing| Limits::new(timing.ticks, timing.repeats);
         Ok(Settings {
-            initialisation,
-            rate,
-            alignment,
+            initialisation: limits(initialisation)?,
+            rate: limits(rate)?,
+            alignment: limits(alignment)?,
             numbering,
             keep_damaged,
             mark,

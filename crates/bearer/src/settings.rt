@@ -1,4 +1,4 @@
-// The settings of an end. Their fields are open, and nothing is left to be kept to: limits carry their ranges, and are checked when they are made.
+// The settings of an end. Their fields are open, since no rule between them is left to keep: limits carry their ranges, and are checked when they are made. Whoever holds them knows that T is at least 1, as the law of whole runs has to.
 use exchange::limits::Limits;
 
 // How user frames are numbered, modulo 16, from the moment when a set comes into force.

@@ -9,28 +9,29 @@ use crate::settings::Numbering;
 use building::user_data::build_user_data;
 use frames::frame::DataHeader;
 use frames::octets::Octets;
+use frames::ranged::Ranged;
 use frames::refusal::Refusal;
 use set_in_force::in_force::InForce;
 use sets::closed::Set;
 use std::marker::Model;
 
+// The number of a user data frame, four bits wide.
+type FrameNumber = Ranged<0, 15>;
+
 // The set in force, the number of the next frame to send, and the number that is expected next.
 #[derive(Drop)]
 pub(crate) struct Traffic {
     set: InForce,
-    sending: u8,
-    expected: u8,
+    sending: FrameNumber,
+    expected: FrameNumber,
 }
 
 impl Model for Traffic {
-    ghost use Rattle.std.specs.Prelude.{◌≤◌};
     ghost use Rattle.bearer.specs.Bearing.{Force};
 
     ghost Value = { Force };
 
     ghost view = { λ t. record { set = t.set; sending = t.sending; expected = t.expected } };
-
-    ghost invariant = { λ t. (t.sending ≤ 15) × (t.expected ≤ 15) };
 }
 
 impl Traffic {
@@ -40,8 +41,8 @@ impl Traffic {
     {
         Traffic {
             set: InForce::from_set(set),
-            sending: 0,
-            expected: 0,
+            sending: FrameNumber::first(),
+            expected: FrameNumber::first(),
         }
     }
 
@@ -55,18 +56,17 @@ impl Traffic {
     pub(crate) fn frame(&self, rfci: u8, fqc: u8, payload: &[u8]) -> Result<Octets, Refusal>
         ensures { result ≡ frame_for rfci fqc payload.now self.now }
     {
-        match self.set.look_up(rfci) {
-            Some(found) if found.allowed => {
-                let header = DataHeader {
-                    data_type: self.set.opening().data_type(),
-                    number: self.sending,
-                    fqc,
-                    rfci,
-                };
-                build_user_data(header, found.bits as usize, payload)
-            }
-            _ => Err(Refusal::RfciBarred),
+        let found = self.set.look_up(rfci).ok_or(Refusal::RfciBarred)?;
+        if !found.allowed {
+            return Err(Refusal::RfciBarred);
         }
+        let header = DataHeader {
+            data_type: self.set.opening().data_type(),
+            number: self.sending.value(),
+            fqc,
+            rfci,
+        };
+        build_user_data(header, found.bits as usize, payload)
     }
 
     // A tick or a frame has passed: where numbers go on by it, the next frame has the next one, modulo 16.
@@ -74,7 +74,7 @@ impl Traffic {
         ensures { self.new ≡ numbered numbering by self.old }
     {
         if numbering == by {
-            self.sending = (self.sending + 1) % 16;
+            self.sending = self.sending.following();
         }
     }
 }

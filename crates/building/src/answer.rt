@@ -11,13 +11,13 @@ use frames::octets::Octets;
 use frames::procedure::Procedure;
 
 pub fn build_ack(procedure: Procedure, number: Number) -> Octets
-    ensures { result ≡ ack_frame (code_of procedure) number.value }
+    ensures { result ≡ ack_frame (code_of procedure) number }
 {
     short_control(ControlKind::Ack, procedure, number, &[])
 }
 
 pub fn build_nack(procedure: Procedure, number: Number, cause: Cause) -> Octets
-    ensures { result ≡ nack_frame (code_of procedure) number.value cause.value }
+    ensures { result ≡ nack_frame (code_of procedure) number cause }
 {
-    short_control(ControlKind::Nack, procedure, number, &[cause.value << 2])
+    short_control(ControlKind::Nack, procedure, number, &[cause.value() << 2])
 }

@@ -21,9 +21,9 @@ pub(crate) fn control(
     number: Number,
     payload: &[u8],
 ) -> Result<Octets, Refusal>
-    ensures { result ≡ fitting (control_frame kind (code_of procedure) number.value payload.now) }
+    ensures { result ≡ fitting (control_frame kind (code_of procedure) number payload.now) }
 {
-    let first = PduType::Control.number() * 16 + kind as u8 * 4 + number.value;
+    let first = PduType::Control.number() * 16 + kind as u8 * 4 + number.value();
     let sum = match kind {
         ControlKind::Question => payload_checksum(payload),
         ControlKind::Ack | ControlKind::Nack => 0,
@@ -39,7 +39,7 @@ pub(crate) fn short_control(
     payload: &[u8],
 ) -> Octets
     requires { length payload.now ≤ 9 }
-    ensures { result ≡ control_frame kind (code_of procedure) number.value payload.now }
+    ensures { result ≡ control_frame kind (code_of procedure) number payload.now }
 {
     control(kind, procedure, number, payload).unwrap()
 }

@@ -25,6 +25,6 @@ pub(crate) fn pad(bits: usize, payload: &[u8]) -> Result<Octets, Refusal>
         [whole @ .., last] if over != 0 => {
             Octets::of_parts(whole, &[high_bits(over as u32, *last)])
         }
-        _ => Octets::of_parts(payload, &[]),
+        _ => Octets::of_slice(payload),
     }
 }

@@ -3,7 +3,6 @@ ghost use Rattle.std.specs.Prelude.{◌≡◌};
 ghost use Rattle.frames.specs.Distances.{distance_code};
 ghost use Rattle.frames.specs.Joined.{fitting};
 ghost use Rattle.frames.specs.Procedures.{code_of};
-ghost use Rattle.frames.specs.Values.{octet_of};
 ghost use Rattle.building.specs.Building.{question_frame, alignment_frame, error_frame};
 
 use crate::control::{control, short_control};
@@ -22,13 +21,13 @@ pub fn build_question(
     number: Number,
     payload: &[u8],
 ) -> Result<Octets, Refusal>
-    ensures { result ≡ fitting (question_frame (code_of procedure) number.value payload.now) }
+    ensures { result ≡ fitting (question_frame (code_of procedure) number payload.now) }
 {
     control(ControlKind::Question, procedure, number, payload)
 }
 
 pub fn build_alignment(number: Number, shift: Shift) -> Octets
-    ensures { result ≡ alignment_frame number.value (octet_of shift) }
+    ensures { result ≡ alignment_frame number shift }
 {
     short_control(
         ControlKind::Question,
@@ -39,12 +38,12 @@ pub fn build_alignment(number: Number, shift: Shift) -> Octets
 }
 
 pub fn build_error_event(number: Number, distance: Distance, cause: Cause) -> Octets
-    ensures { result ≡ error_frame number.value (distance_code distance) cause.value }
+    ensures { result ≡ error_frame number (distance_code distance) cause }
 {
     short_control(
         ControlKind::Question,
         Procedure::ErrorEvent,
         number,
-        &[(distance.code() << 6) + cause.value],
+        &[(distance.code() << 6) + cause.value()],
     )
 }

@@ -1,4 +1,5 @@
 // User data of either type.
+// (d): the definitions take type, number, FQC and RFCI one by one: these decide, and the round trips speak of each.
 ghost use Rattle.std.specs.Prelude.{◌≡◌, ◌≤◌};
 ghost use Rattle.frames.specs.Joined.{fitting};
 ghost use Rattle.building.specs.UserData.{user_frame, user_data};

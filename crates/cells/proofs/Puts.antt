@@ -1,31 +1,44 @@
--- What a store of cells stands for after one frame more.
-use Rattle.std.proofs.Common.{◌≡◌, ℕ, suc, ◌+◌, ◌<◌, true, List, [], ◌∷◌, ◌++◌, length, slice_set, ◌∙◌, ap, arith, add-one}
-use Rattle.std.proofs.lemmas.List.{length-set}
+-- What a store of cells stands for, before and after one frame more or less.
+use Rattle.std.proofs.Common.{◌≡◌, ℕ, suc, ◌+◌, ◌-◌, ◌<◌, ◌≤◌, true, List, [], ◌∷◌, ◌++◌, length, get_or, slice_set, ◌∙◌, sym, ap, arith, add-one}
+use Rattle.std.proofs.lemmas.List.{get_or_default}
 use Rattle.std.proofs.lemmas.Bool.Decides.{nat_tests}
-use Rattle.lines.specs.Circle.{place, window}
-use Rattle.lines.proofs.Turns.{window_push, length_window}
+use Rattle.lines.specs.Circle.{place, Turn, Round, items_in}
+use Rattle.lines.proofs.Turns.{window_push, window_cut, length_window}
 use Rattle.cells.specs.Standing.{standing, Standing, Sound, free}
 
-module _ (cells : List (List ℕ)) (size head used : ℕ) (sound : Sound cells size head used) where
-  -- room for a length is a cell that is free
-  pub free_cell : (s : Standing) (n : ℕ) → standing cells size head used ≡ s → free (suc s.more) s.frames n ≡ true → used < size
-  free_cell s n is room =
-      let more = ap (λ t. t.more) is in
-      let waits = ap (λ t. length t.frames) is in
-      let long = length_window [] cells size head used in
-      let begun = sound.begun in
-      grind (arith, nat_tests)
+module _ (cells : List (List ℕ)) (t : Turn) (sound : Sound cells t) (s : Standing) (is : standing cells t ≡ s) where
+  many : length s.frames ≡ t.used
+  many = sym (ap (λ s. length s.frames) is) ∙ length_window [] cells t.size t.head t.used
 
-  module _ (at : ℕ) (f : List ℕ) (room : used < size) (is : at ≡ place size head used) where
-    pub frames_put : (s : Standing) (g : List ℕ) → standing cells size head used ≡ s → f ≡ g → window [] (slice_set cells at f) size head (used + 1) ≡ s.frames ++ g ∷ []
-    frames_put s g stands same =
-        rw (is, add-one) (window_push [] cells size head used f sound.begun room (omega (arith, sound.wide, sound.few)))
-        ∙ ap (λ t. t.frames ++ f ∷ []) stands ∙ ap (λ h. s.frames ++ h ∷ []) same
+  wide : suc s.more ≡ t.size
+  wide = let more = ap (λ s. s.more) is in let some = sound.some in omega arith
 
-    pub sound_put : Sound (slice_set cells at f) size head (used + 1)
-    sound_put = record {
-      wide = length-set cells at f ∙ sound.wide;
-      few = sound.few;
-      begun = sound.begun;
-      within = omega arith;
-    }
+  -- where there is room, a cell is free
+  pub room_left : (n : ℕ) → free (suc s.more) s.frames n ≡ true → t.used + 1 ≤ t.size
+  room_left n room = let long = many in let size = wide in grind (arith, nat_tests)
+
+  module _ (round : Round t) where
+    -- a frame more, in the cell behind the others
+    pub frames_put : (at : ℕ) (f g : List ℕ) (t' : Turn) → t.used + 1 ≤ t.size → at ≡ place t.size t.head t.used → t' ≡ record { size = t.size; head = t.head; used = t.used + 1 } → f ≡ g → items_in [] (slice_set cells at f) t' ≡ s.frames ++ g ∷ []
+    frames_put at f g t' left place_is turned same =
+        let begun = round.begun in
+        let few = sound.few in
+        let all = sound.wide in
+        ap (items_in [] (slice_set cells at f)) turned
+        ∙ rw (place_is, add-one) (window_push [] cells t.size t.head t.used f (omega arith) (omega arith) (omega arith))
+        ∙ ap (λ s. s.frames ++ f ∷ []) is ∙ ap (λ h. s.frames ++ h ∷ []) same
+
+    -- the oldest, whatever stands for a cell that is not there, and those that are left
+    pub frames_first : (at : ℕ) (d : List ℕ) → 1 ≤ t.used → at ≡ t.head → s.frames ≡ get_or cells at d ∷ items_in [] cells (record { size = t.size; head = place t.size t.head 1; used = t.used - 1 })
+    frames_first at d used first =
+        let begun = round.begun in
+        let some = sound.some in
+        let few = sound.few in
+        let all = sound.wide in
+        sym (ap (λ s. s.frames) is) ∙ window_cut [] cells t.size t.head t.used used
+        ∙ ap (λ f. f ∷ items_in [] cells (record { size = t.size; head = place t.size t.head 1; used = t.used - 1 })) (get_or_default cells t.head [] d (omega arith) ∙ ap (λ k. get_or cells k d) (sym first))
+
+  pub frames_none : t.used < 1 → s.frames ≡ []
+  frames_none none =
+      let bare : t.used ≡ 0 = omega arith in
+      sym (ap (λ s. s.frames) is) ∙ ap (λ n. items_in [] cells (record { size = t.size; head = t.head; used = n })) bare

@@ -10,6 +10,8 @@ pub const MOST: usize = 32;
 
 pub type CellCount = Size<1, MOST>;
 
+// `CellCount::new` stands in lines and promises a range in general; that a count of cells is 1 to 32 is promised here, since
+// the name of a type has no contract of its own.
 pub fn cell_count(count: usize) -> Result<CellCount, Refusal>
     ensures { result ≡ count_in count }
 {

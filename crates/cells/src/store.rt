@@ -1,5 +1,4 @@
-// The cells, of which the first `size` are used, round and round: an array with a length, since a line uses no heap.
-// Cells are filled in place one by one, and the octets of a ring are copied by parts: what both share is `lines::turning`.
+// The cells, round and round: each is filled in place with one frame, and stays there until it is read.
 ghost use Rattle.std.specs.Prelude.{◌≡◌, suc};
 ghost use Rattle.cells.specs.Standing.{free};
 
@@ -7,17 +6,17 @@ use crate::cell::Cell;
 use crate::count::{CellCount, MOST};
 use frames::octets::LONGEST;
 use frames::refusal::Refusal;
+use lines::length::fits;
 use lines::store::Store;
-use lines::turning::step;
+use lines::turning::Turning;
 use std::array;
 use std::marker::Model;
 
+// A line has no heap: an array of the greatest size.
 #[derive(Drop)]
 pub struct CellStore {
     cells: [Cell; MOST],
-    head: usize,
-    used: usize,
-    size: usize,
+    turning: Turning,
 }
 
 impl Model for CellStore {
@@ -25,9 +24,9 @@ impl Model for CellStore {
 
     ghost Value = { Standing };
 
-    ghost view = { λ s. standing s.cells s.size s.head s.used };
+    ghost view = { λ s. standing s.cells s.turning };
 
-    ghost invariant = { λ s. Sound s.cells s.size s.head s.used };
+    ghost invariant = { λ s. Sound s.cells s.turning };
 }
 
 impl Store for CellStore {
@@ -54,35 +53,32 @@ impl Store for CellStore {
     fn empty(wanted: CellCount) -> CellStore {
         CellStore {
             cells: array::from_fn(|_| Cell::empty()),
-            head: 0,
-            used: 0,
-            size: wanted.places(),
+            turning: Turning::new(wanted.places()),
         }
     }
 
     #[tactic(auto, using(lines::proofs::Turns::length_window))]
     fn has_room(&self, length: usize) -> bool {
-        length >= 1 && length <= LONGEST && self.used < self.size
+        fits(length) && self.turning.left() > 0
     }
 
     fn push(&mut self, frame: &[u8]) -> Result<(), Refusal> {
         if !self.has_room(frame.len()) {
             return Err(Refusal::LineDeclines);
         }
-        let next = step(self.size, self.head, self.used);
+        let next = self.turning.gain(1).unwrap();
         self.cells[next].fill(frame);
-        self.used += 1;
         Ok(())
     }
 
-    fn pop(&mut self, out: &mut [u8; LONGEST]) -> Option<usize> {
-        if self.used == 0 {
-            return None;
-        }
-        let first = self.head;
-        let n = self.cells[first].read(out);
-        self.head = step(self.size, first, 1);
-        self.used -= 1;
-        Some(n)
+    fn pop(&mut self, out: &mut [u8]) -> Result<Option<usize>, Refusal> {
+        let start = out
+            .first_chunk_mut::<LONGEST>()
+            .ok_or(Refusal::BufferTooSmall)?;
+        // `map` was tried: its closure sees no bound of `first`, so it needs a clause of its own that it is the place of a cell
+        let Some(first) = self.turning.lose(1) else {
+            return Ok(None);
+        };
+        Ok(Some(self.cells[first].read(start)))
     }
 }

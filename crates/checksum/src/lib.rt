@@ -27,7 +27,9 @@ const PAYLOAD: Generator = Generator {
 };
 
 impl Generator {
-    // The parity after one bit more. That it stays below 2 ^ width is said in each step: a type for it would hold the generator too, and be no plainer.
+    // The parity after one bit more.
+    // (d): that it stays below 2 ^ width is said in each step. The two generators differ in width, so a type for the sum would have the width
+    // as a const parameter; the generator and its three functions would take it too, and unpack the sum at each bit: more than the clauses that go.
     fn with_bit(self, sum: u16, bit: u16) -> u16
         requires sum { sum < 2 ^ self.width }
         requires bit { bit < 2 }

@@ -6,32 +6,33 @@
 use bearer::settings::{Numbering, Settings, Timing};
 use building::answer::build_ack;
 use building::user_data::build_user_data;
-use cells::cells::Cells;
 use cells::count::CellCount;
+use cells::store::CellStore;
 use frames::data_type::DataType;
 use frames::frame::DataHeader;
 use frames::number::Number;
 use frames::octets::Octets;
 use frames::procedure::Procedure;
+use frames::refusal::Refusal;
 use lines::line::Line;
+use lines::queue::Queue;
+use lines::store::Store;
 use radio_end::received::Received;
 use radio_end::state::RadioEnd;
 use reports::report::Report;
-use ring::ring::Ring;
 use ring::size::RingSize;
+use ring::store::RingStore;
 use sets::closed::Set;
 use sets::draft::Draft;
 use sets::opening::Opening;
 use std::io;
-use std::io::Read;
 use std::time::Instant;
-use timing::count_in;
+use timing::read_count;
 
-// One case: how many combinations the set has, of how many bits each, and the user data.
+// One case: how many combinations the set has, and the user data, of as many bits as each of them.
 #[derive(Drop)]
 struct Case<'a> {
     combinations: u8,
-    bits: u16,
     payload: &'a [u8],
 }
 
@@ -78,6 +79,7 @@ fn receive_often<L: Line>(
         .count()
 }
 
+// The text of a run is this bench's own, as in `framebench`: a library function that prints would have nothing to promise.
 fn measure_frame<L: Line + Drop>(
     rt: &HostRuntime,
     name: &str,
@@ -86,6 +88,7 @@ fn measure_frame<L: Line + Drop>(
     frame: &Octets,
     times: u32,
 ) -> io::Result<()> {
+    // settings, sets and frames that cannot be made are left out: none of the cases below is one
     let Some(settings) = settings() else {
         return Ok(());
     };
@@ -95,8 +98,7 @@ fn measure_frame<L: Line + Drop>(
     let length = frame.as_slice().len();
     let start = Instant::now(rt)?;
     let delivered = receive_often(&mut end, frame.as_slice(), times, &mut report);
-    let spent = start.elapsed(rt)?;
-    let micros = spent.as_micros();
+    let micros = start.elapsed(rt)?.as_micros();
     println!(rt; "{name}: {length} octets, delivered {delivered} of {times}")?;
     eprintln!(rt; "{name} {length} {times} {micros}")
 }
@@ -108,7 +110,10 @@ fn measure<L: Line + Drop>(
     case: &Case<'_>,
     times: u32,
 ) -> io::Result<()> {
-    let Some(set) = set_of(case.combinations, case.bits) else {
+    let Ok(bits) = u16::try_from(case.payload.len().saturating_mul(8)) else {
+        return Ok(());
+    };
+    let Some(set) = set_of(case.combinations, bits) else {
         return Ok(());
     };
     // the last combination of the set, which is found last
@@ -119,44 +124,46 @@ fn measure<L: Line + Drop>(
         fqc: 0,
         rfci,
     };
-    match build_user_data(header, case.bits as usize, case.payload) {
+    match build_user_data(header, bits as usize, case.payload) {
         Ok(frame) => measure_frame(rt, name, line, set, &frame, times),
         Err(_) => println!(rt; "{name}: not built"),
+    }
+}
+
+fn measure_on<S: Store + Drop>(
+    rt: &HostRuntime,
+    name: &str,
+    size: Result<S::Size, Refusal>,
+    case: &Case<'_>,
+    times: u32,
+) -> io::Result<()> {
+    match size {
+        Ok(size) => measure(rt, name, Queue::<S>::new(size), case, times),
+        Err(_) => Ok(()),
     }
 }
 
 fn measure_both(rt: &HostRuntime, case: &Case<'_>, times: u32) -> io::Result<()> {
     let combinations = case.combinations;
     println!(rt; "a set of {combinations}")?;
-    if let Ok(count) = CellCount::new(32) {
-        measure(rt, "cells", Cells::new(count), case, times)?;
-    }
-    if let Ok(size) = RingSize::new(65536) {
-        measure(rt, "ring", Ring::new(size), case, times)?;
-    }
-    Ok(())
+    measure_on::<CellStore>(rt, "cells", CellCount::new(32), case, times)?;
+    measure_on::<RingStore>(rt, "ring", RingSize::new(65536), case, times)
 }
 
 fn measure_sizes(rt: &HostRuntime, combinations: u8, times: u32) -> io::Result<()> {
-    let sizes: [(u16, &[u8]); 3] = [(40, &[0x55; 5]), (320, &[0x55; 40]), (4000, &[0x55; 500])];
-    for (bits, payload) in sizes {
-        measure_both(
-            rt,
-            &Case {
-                combinations,
-                bits,
-                payload,
-            },
-            times,
-        )?;
+    let payloads: [&[u8]; 3] = [&[0x55; 5], &[0x55; 40], &[0x55; 500]];
+    for payload in payloads {
+        let case = Case {
+            combinations,
+            payload,
+        };
+        measure_both(rt, &case, times)?;
     }
     Ok(())
 }
 
 fn main(rt: HostRuntime) -> io::Result<()> {
-    let mut input = [0; 64];
-    let count = rt.stdin().read(&mut input)?;
-    let times = count_in(&input[..count]);
+    let times = read_count(&mut rt.stdin())?;
     measure_sizes(&rt, 1, times)?;
     measure_sizes(&rt, 32, times)
 }

@@ -21,6 +21,8 @@ use Rattle.exchange.specs.declared.limits.Limits.{Limits}
 use Rattle.exchange.specs.Asked.{Fails, Proper}
 use Rattle.exchange.specs.Asking as Asking
 use Rattle.exchange.specs.Asking.{begun, leads, sent, ends, again, ticked, turned, heard}
+use Rattle.frames.specs.Contents.{Reply}
+use Rattle.exchange.specs.Answers.{cause_in}
 use Rattle.exchange.specs.Slots.{slot_ticked, slot_heard}
 use Rattle.exchange.specs.Books.{Mark, announced, closed, asked, waited, procedure_of, same, question, notes, named, completes, done_in}
 use Rattle.exchange.proofs.Moves.{watch, watched, Move, stays, idles, waits, lapses, expires, repeats, advances, closes}
@@ -177,9 +179,10 @@ module _ {Q A : Type 0} (procedure : Procedure) (kind : Kind) (asks frames : Q �
     slot_ticking None h = record { marks = []; move = idles; says = λ j. silence kind j; asks = tt; steady = refl; still = tt; other = λ j _. refl; plain = refl; few = omega arith }
     slot_ticking (Some e) h = ticking e h
 
-    pub slot_hearing : {B : Type 0} (answer : Result A Refusal) (told : Result B Refusal) (number : ℕ) (o : Option (Exchange Q)) → Asks o → Goes limits kind [] o (slot_heard frames kind takes limits follows declined (leads turns answer) told number o)
-    slot_hearing answer told number None h = record { marks = []; move = stays; says = λ j. silence kind j; asks = tt; steady = refl; still = tt; other = λ j _. refl; plain = refl; few = omega arith }
-    slot_hearing answer told number (Some e) h = hearing answer told number e h
+module _ {Q : Type 0} (procedure : Procedure) (kind : Kind) (asks frames : Q → ℕ → List ℕ) (follows : Q → ℕ → Bool) (unanswered declined : Ending) (turns : Option ℕ → Turn) (proper : Proper procedure kind asks frames follows unanswered declined turns) (limits : Limits) (takes : ℕ → Bool) where
+  pub slot_hearing : (r : Reply) (o : Option (Exchange Q)) → Asks o → Goes limits kind [] o (slot_heard frames kind takes limits follows declined turns r o)
+  slot_hearing r None h = record { marks = []; move = stays; says = λ j. silence kind j; asks = tt; steady = refl; still = tt; other = λ j _. refl; plain = refl; few = omega arith }
+  slot_hearing r (Some e) h = hearing procedure kind asks frames follows unanswered declined turns proper limits takes (cause_in r) (cause_in r) r.number e h
 
 pub named-++ : (k : Kind) (s u : List Happening) → named k (s ++ u) ≡ named k s ++ named k u
 named-++ k [] u = refl

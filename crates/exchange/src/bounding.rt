@@ -10,9 +10,9 @@ impl Limits {
     pub fn new(ticks: u16, repeats: u8) -> Result<Limits, Refusal>
         ensures { as_bound result ≡ bound_in ticks repeats }
     {
-        if ticks < 1 || ticks > 1000 || repeats > 15 {
-            return Err(Refusal::SettingRange);
+        match (ticks, repeats) {
+            (1..=1000, 0..=15) => Ok(Limits { ticks, repeats }),
+            _ => Err(Refusal::SettingRange),
         }
-        Ok(Limits { ticks, repeats })
     }
 }

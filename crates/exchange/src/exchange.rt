@@ -9,7 +9,7 @@ use frames::number::Number;
 use lines::line::Line;
 
 // The ticks that are left, and how often the present frame was repeated.
-// The number of the present frame is plain: a `Number` goes round after 3, and an exchange counts on until its kind has no next frame.
+// The number of the present frame is plain, since `frame` and `more` of an `Inquiry` take any octet: a `Number` there would ask more of whoever calls them.
 #[derive(Drop)]
 pub struct Exchange<Q> {
     pub(crate) question: Q,
@@ -22,14 +22,14 @@ impl<Q: Inquiry> Exchange<Q> {
     // A question that is about to be asked. Whatever ticks and answers follow, and whatever the line takes,
     // no number is sent more than 1 + N times, or waited on for more than (1 + N) × T ticks.
     pub fn first(question: Q, number: Number, limits: Limits) -> Exchange<Q>
-        ensures begun { result ≡ begun question number.value limits }
+        ensures begun { result ≡ begun question number limits }
         ensures courses { CoursesHold Q.frames Q.KIND Q.follows Q.UNANSWERED Q.DECLINED Q.turns limits result }
     {
         Exchange {
             question,
             ticks: limits.ticks,
             repeats: 0,
-            number: number.value,
+            number: number.value(),
         }
     }
 

@@ -1,22 +1,20 @@
 // The kinds of question.
-ghost use Rattle.std.specs.Prelude.{◌≡◌, ℕ, Bool, List, Option, Result};
+ghost use Rattle.std.specs.Prelude.{◌≡◌, ℕ, Bool, List, Option};
 ghost use Rattle.frames.specs.declared.procedure.Procedure.{Procedure};
-ghost use Rattle.frames.specs.declared.refusal.Refusal.{Refusal};
 ghost use Rattle.reports.specs.declared.ending.Ending.{Ending};
 ghost use Rattle.reports.specs.declared.ending.Kind.{Kind};
-ghost use Rattle.exchange.specs.declared.answer.AckNack.{AckNack};
 ghost use Rattle.exchange.specs.declared.answer.Turn.{Turn};
-ghost use Rattle.exchange.specs.Answers.{told_by, cause_in};
 ghost use Rattle.exchange.specs.Asked.{Proper};
+ghost use Rattle.exchange.specs.Asking.{leads};
 
-use crate::answer::{AckNack, Turn};
-use frames::frame::Answer;
+use crate::answer::Turn;
+use frames::cause::Cause;
 use frames::octets::Octets;
 use frames::procedure::Procedure;
 use frames::refusal::Refusal;
 use reports::ending::{Ending, Kind};
 
-// A kind of question names its procedure, its frames and the form of its answer.
+// A kind of question names its procedure, its frames, its endings and what an answer leads to.
 pub trait Inquiry: Drop {
     const PROCEDURE: Procedure;
 
@@ -26,8 +24,6 @@ pub trait Inquiry: Drop {
     const UNANSWERED: Ending;
 
     const DECLINED: Ending;
-
-    type Answer: Copy;
 
     ghost PROCEDURE: { Procedure };
 
@@ -44,13 +40,8 @@ pub trait Inquiry: Drop {
 
     ghost follows: { Self → ℕ → Bool };
 
-    // The answer in a frame, by its kind, its version field and its payload, and what it leads to.
-    ghost reads: { AckNack → ℕ → List ℕ → Result Self.Answer Refusal };
-
-    ghost turns: { Self.Answer → Turn };
-
-    // The cause that it names, none where it accepts.
-    ghost causes: { Self.Answer → Option ℕ };
+    // What an answer leads to, by the cause of a Nack, none for an Ack.
+    ghost turns: { Option ℕ → Turn };
 
     fn frame(&self, number: u8) -> Octets
         ensures { result ≡ frames self.now number };
@@ -58,17 +49,10 @@ pub trait Inquiry: Drop {
     fn more(&self, number: u8) -> bool
         ensures { result ≡ follows self.now number };
 
-    fn read(sort: AckNack, answer: Answer<'_>) -> Result<Self::Answer, Refusal>
-        ensures { result ≡ reads sort answer.entry.version answer.entry.payload.now };
-
-    fn turn(answer: Self::Answer) -> Turn
-        ensures { result ≡ turns answer };
-
-    fn cause(answer: Self::Answer) -> Option<u8>
-        ensures { result ≡ causes answer };
+    // An erroneous answer counts as declined.
+    fn turn(answer: &Result<Option<Cause>, Refusal>) -> Turn
+        ensures { result ≡ leads turns answer.now };
 
     // Each frame is the question of the procedure, and no answer ends it as done but after its last frame.
     ghost proper: { Proper PROCEDURE KIND asks frames follows UNANSWERED DECLINED turns };
-
-    ghost told: { (sort : AckNack) (version : ℕ) (payload : List ℕ) → told_by causes (reads sort version payload) ≡ cause_in sort version payload };
 }

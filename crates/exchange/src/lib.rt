@@ -7,5 +7,6 @@ mod bounding;
 pub mod exchange;
 pub mod inquiry;
 pub mod limits;
+pub mod numbered;
 pub mod slots;
 mod steps;

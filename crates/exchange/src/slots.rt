@@ -1,16 +1,17 @@
 // An exchange of some kind, where one runs.
+// A slot is an `Option` that its owner looks into and empties, too: a type of its own would only hand that on.
 // Limits, line and report stay three arguments: the limits are the kind's, the line the end's, the report the caller's,
 // and a struct of them would be made at each call only to be taken apart in the next one.
 ghost use Rattle.std.specs.Prelude.{◌≡◌};
+ghost use Rattle.frames.specs.Contents.{reply};
 ghost use Rattle.reports.specs.Effects.{Did};
-ghost use Rattle.exchange.specs.Answers.{told_by, cause_in};
-ghost use Rattle.exchange.specs.Asking.{leads};
-ghost use Rattle.exchange.specs.Slots.{slot_begun, slot_ticked, slot_heard};
+ghost use Rattle.exchange.specs.Slots.{slot_begun, slot_started, slot_ticked, slot_heard};
 
-use crate::answer::{AckNack, Turn};
+use crate::answer::read_cause;
 use crate::exchange::Exchange;
 use crate::inquiry::Inquiry;
 use crate::limits::Limits;
+use frames::cause::Cause;
 use frames::frame::Answer;
 use frames::number::Number;
 use frames::refusal::Refusal;
@@ -26,7 +27,7 @@ pub fn begin_in<Q: Inquiry, L: Line>(
     line: &mut L,
     report: &mut Report,
 ) -> Result<(), Refusal>
-    ensures { Did L.waiting (slot_begun Q.frames Q.KIND (L.takes line.old) limits question number.value slot.old) slot.new result line.old line.new report.old report.new }
+    ensures { Did L.waiting (slot_begun Q.frames Q.KIND (L.takes line.old) limits question number slot.old) slot.new result line.old line.new report.old report.new }
 {
     if slot.is_some() {
         return Err(Refusal::AlreadyRuns);
@@ -35,9 +36,21 @@ pub fn begin_in<Q: Inquiry, L: Line>(
     if !first.is_taken(line) {
         return Err(Refusal::LineDeclines);
     }
+    start_in(slot, first, line, report);
+    Ok(())
+}
+
+// An exchange begins: its start is named and its first frame sent, whether the line takes it or not.
+pub fn start_in<Q: Inquiry, L: Line>(
+    slot: &mut Option<Exchange<Q>>,
+    first: Exchange<Q>,
+    line: &mut L,
+    report: &mut Report,
+)
+    ensures { Did L.waiting (slot_started Q.frames Q.KIND (L.takes line.old) first) slot.new result line.old line.new report.old report.new }
+{
     first.start(line, report);
     *slot = Some(first);
-    Ok(())
 }
 
 // One tick.
@@ -60,36 +73,21 @@ pub fn pass_in<Q: Inquiry, L: Line>(
 // An erroneous one counts as declined, and the call is refused.
 pub fn hear_in<Q: Inquiry, L: Line>(
     slot: &mut Option<Exchange<Q>>,
-    sort: AckNack,
     answer: Answer<'_>,
     limits: Limits,
     line: &mut L,
     report: &mut Report,
-) -> Result<Option<u8>, Refusal>
-    ensures { Did L.waiting (slot_heard Q.frames Q.KIND (L.takes line.old) limits Q.follows Q.DECLINED (leads Q.turns (Q.reads sort answer.entry.version answer.entry.payload.now)) (cause_in sort answer.entry.version answer.entry.payload.now) answer.entry.number slot.old) slot.new result line.old line.new report.old report.new }
+) -> Result<Option<Cause>, Refusal>
+    ensures { Did L.waiting (slot_heard Q.frames Q.KIND (L.takes line.old) limits Q.follows Q.DECLINED Q.turns (reply answer.entry) slot.old) slot.new result line.old line.new report.old report.new }
 {
-    let Some(running) = slot else {
-        return Err(Refusal::UnexpectedProcedure);
-    };
+    let running = slot.as_mut().ok_or(Refusal::UnexpectedProcedure)?;
     if running.number != answer.number {
         return Err(Refusal::UnexpectedValue);
     }
-    let read = Q::read(sort, answer);
-    if !running.turn(turn_by::<Q>(read), limits, line, report) {
+    let read = read_cause(answer);
+    let turn = Q::turn(&read);
+    if !running.turn(turn, limits, line, report) {
         *slot = None;
     }
-    told::<Q>(read)
-}
-
-// An erroneous answer counts as declined.
-fn turn_by<Q: Inquiry>(answer: Result<Q::Answer, Refusal>) -> Turn
-    ensures { result ≡ leads Q.turns answer }
-{
-    answer.map_or(Turn::Again, |answer| Q::turn(answer))
-}
-
-fn told<Q: Inquiry>(answer: Result<Q::Answer, Refusal>) -> Result<Option<u8>, Refusal>
-    ensures { result ≡ told_by Q.causes answer }
-{
-    answer.map(|answer| Q::cause(answer))
+    read
 }

@@ -1,7 +1,8 @@
 -- Steps of the loop over pairs of hexadecimal digits.
-use Rattle.std.proofs.Common.{◌≡◌, ℕ, ◌+◌, ◌*◌, ◌/◌, ◌%◌, ◌<◌, ◌≤◌, true, ◌&&◌, List, [], ◌∷◌, ◌++◌, length, refl, ap, ◌∙◌, sym, arith, rules, Ok, Err, slice_index}
+use Rattle.std.proofs.Common.{◌≡◌, ℕ, ◌+◌, ◌*◌, ◌/◌, ◌%◌, ◌<◌, ◌≤◌, true, ◌&&◌, List, [], ◌∷◌, ◌++◌, length, take, drop, get_or, zero, suc, refl, ap, ◌∙◌, sym, arith, rules, Ok, Err, slice_index}
 use Rattle.std.proofs.lemmas.Bool.{and_parts}
-use Rattle.std.proofs.lemmas.List.{append_assoc, append-nil, length-append}
+use Rattle.std.proofs.lemmas.List.{append_assoc, append-nil, drop-drop, length-append, length-drop, length-take-le, take-append-drop}
+use Rattle.std.specs.Simd.{first_chunks}
 use Rattle.frames.specs.Hex.{is_digit, value_of, pair_in, all_digits, octets_in, hex_in}
 use Rattle.frames.specs.declared.refusal.Refusal.TheVariants.{TooLong}
 
@@ -36,6 +37,29 @@ pub record Reading (cs rest octets : List ℕ) : Type 0 where
 -- what a pair taken from the digits left tells
 pub taken : (cs all p r octets : List ℕ) → all ≡ p ++ r → length p ≡ 2 → Reading cs all octets → Pair p r
 taken cs all p r octets e h w = pair p r h (let l = w.left in cc)
+
+-- the digits from a place on: the pair there, and those after it
+pub record At (cs p : List ℕ) (i : ℕ) : Type 0 where
+  pub two : length p ≡ 2
+  pub is : drop (2 * i) cs ≡ p ++ drop (2 * (i + 1)) cs
+
+chunk_at : (n i : ℕ) (xs d : List ℕ) → i < n → get_or (first_chunks 2 n xs) i d ≡ take 2 (drop (2 * i) xs)
+chunk_at zero i xs d h = absurd (omega arith)
+chunk_at (suc n) zero xs d h = refl
+chunk_at (suc n) (suc i) xs d h =
+    let e : 2 + 2 * i ≡ 2 * suc i = omega arith in
+    chunk_at n i (drop 2 xs) d (omega arith) ∙ ap (take 2) (drop-drop (2 * i) 2 xs ∙ ap (λ (m : ℕ). drop m xs) e)
+
+pub pair_at : (cs d : List ℕ) (pairs : List (List ℕ)) (i : ℕ) → pairs ≡ first_chunks 2 (length cs / 2) cs → i < length cs / 2 → At cs (get_or pairs i d) i
+pair_at cs d pairs i e h =
+    let q = ap (λ (ps : List (List ℕ)). get_or ps i d) e ∙ chunk_at (length cs / 2) i cs d h in
+    let k : 2 * i + 2 ≡ 2 * (i + 1) = omega arith in
+    let l = length-drop (2 * i) cs in
+    record {
+      two = ap length q ∙ length-take-le 2 (drop (2 * i) cs) (omega arith);
+      is = sym (take-append-drop 2 (drop (2 * i) cs)) ∙ ap (λ (t : List ℕ). t ++ drop 2 (drop (2 * i) cs)) (sym q)
+          ∙ ap (λ (t : List ℕ). get_or pairs i d ++ t) (drop-drop 2 (2 * i) cs ∙ ap (λ (m : ℕ). drop m cs) k);
+    }
 
 pub step : (cs all p r octets new : List ℕ) (v : ℕ) → all ≡ p ++ r → length p ≡ 2 → length octets < 512 → pair_in (slice_index p 0) (slice_index p 1) ≡ Ok v → new ≡ octets ++ v ∷ [] → Reading cs all octets → Reading cs r new
 step cs all p r octets new v e h f u n w =

@@ -10,7 +10,10 @@ use Rattle.frames.specs.declared.header.PduType.{PduType}
 use Rattle.frames.specs.declared.header.PduType.TheVariants.{CheckedData, PlainData, Control}
 use Rattle.frames.specs.declared.header.Header.{Header}
 use Rattle.frames.specs.declared.frame.Frame.{Frame}
-use Rattle.frames.specs.declared.frame.Frame.TheVariants.{UserData, Question, Ack, Nack}
+use Rattle.frames.specs.declared.frame.Frame.TheVariants.{UserData, Question, Answer}
+use Rattle.frames.specs.declared.frame.AckNack.{AckNack}
+use Rattle.frames.specs.declared.frame.AckNack.TheVariants.{Ack, Nack}
+use Rattle.frames.specs.declared.frame.Answer.{Answer as AnAnswer}
 use Rattle.frames.specs.Headers.{header_in}
 use Rattle.frames.specs.Procedures.{procedure_of}
 
@@ -21,13 +24,29 @@ pub data Contents : Type 0 where
   ack : (number version : ℕ) (procedure : Procedure) (place : ℕ) (payload : List ℕ) → Contents
   nack : (number version : ℕ) (procedure : Procedure) (place : ℕ) (payload : List ℕ) → Contents
 
+-- an answer, with its payload as a list
+pub record Reply : Type 0 where
+  pub ack_nack : AckNack
+  pub number : ℕ
+  pub version : ℕ
+  pub procedure : Procedure
+  pub payload : List ℕ
+
+-- what an answer of the code says
+abbrev pub reply : AnAnswer → Reply
+reply a = record { ack_nack = a.ack_nack; number = a.number; version = a.version; procedure = a.procedure; payload = a.payload.now }
+
+-- an answer's contents, by whether it accepts
+abbrev pub replied : AckNack → (number version : ℕ) → Procedure → (place : ℕ) → List ℕ → Contents
+replied Ack number version procedure place payload = ack number version procedure place payload
+replied Nack number version procedure place payload = nack number version procedure place payload
+
 -- what a frame of the code says
 abbrev pub content : Frame → Contents
 content (UserData d) =
     user_data d.header.data_type d.header.number d.header.fqc d.header.rfci d.checksum d.place d.payload.now
 content (Question q) = question q.number q.version q.procedure q.checksum q.place q.payload.now
-content (Ack a) = ack a.number a.version a.procedure a.place a.payload.now
-content (Nack a) = nack a.number a.version a.procedure a.place a.payload.now
+content (Answer a) = replied a.ack_nack a.number a.version a.procedure a.place a.payload.now
 
 -- what the code's answer says
 abbrev pub seen : Result Frame Refusal → Result Contents Refusal

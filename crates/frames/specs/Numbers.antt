@@ -1,14 +1,12 @@
--- The number of a control frame.
-use Rattle.std.specs.Prelude.{ℕ, cond, Ok, Err, Result, nat_lt}
+-- Numbers in a range.
+use Rattle.std.specs.Prelude.{ℕ, cond, ◌&&◌, Some, None, Ok, Err, Option, Result, nat_le}
 use Rattle.frames.specs.declared.refusal.Refusal.{Refusal}
 use Rattle.frames.specs.declared.refusal.Refusal.TheVariants.{ValueRange}
-use Rattle.frames.specs.declared.number.Number.{Number}
 
--- what an answer of the code says
-abbrev pub as_number : Result Number Refusal → Result ℕ Refusal
-as_number (Ok n) = Ok n.value
-as_number (Err e) = Err e
+-- from the least to the most
+abbrev pub within : (least most n : ℕ) → Option ℕ
+within least most n = cond (nat_le least n && nat_le n most) (Some n) None
 
--- two bits hold 0 to 3
-abbrev pub number_in : ℕ → Result ℕ Refusal
-number_in n = cond (nat_lt 3 n) (Err ValueRange) (Ok n)
+-- a number out of the range is refused
+abbrev pub ranged_in : (least most n : ℕ) → Result ℕ Refusal
+ranged_in least most n = cond (nat_le least n && nat_le n most) (Ok n) (Err ValueRange)

@@ -1,19 +1,9 @@
 -- Values that fit their fields.
-use Rattle.std.specs.Prelude.{ℕ, ◌+◌, Bool, cond, ◌&&◌, ◌||◌, List, take, Ok, Err, Result, nat_le, nat_lt}
+use Rattle.std.specs.Prelude.{ℕ, ◌+◌, ◌%◌, Bool, cond, ◌&&◌, ◌||◌, List, take, Ok, Err, Result, nat_le, nat_lt}
 use Rattle.frames.specs.declared.refusal.Refusal.{Refusal}
 use Rattle.frames.specs.declared.refusal.Refusal.TheVariants.{ValueRange, ReservedValue}
-use Rattle.frames.specs.declared.cause.Cause.{Cause}
 use Rattle.frames.specs.declared.shift.Direction.{Direction}
 use Rattle.frames.specs.declared.shift.Direction.TheVariants.{Delay, Advance}
-use Rattle.frames.specs.declared.shift.Shift.{Shift}
-
-abbrev pub as_cause : Result Cause Refusal → Result ℕ Refusal
-as_cause (Ok c) = Ok c.value
-as_cause (Err e) = Err e
-
--- six bits hold 0 to 63
-abbrev pub cause_in : ℕ → Result ℕ Refusal
-cause_in n = cond (nat_lt 63 n) (Err ValueRange) (Ok n)
 
 -- the octet that asks for some steps of 500 microseconds: the top bit says that they are an advance
 abbrev pub steps_octet : Direction → ℕ → ℕ
@@ -21,12 +11,11 @@ steps_octet Delay steps = steps
 steps_octet Advance steps = 128 + steps
 
 -- a shift is known by its octet
-abbrev pub octet_of : Shift → ℕ
-octet_of s = steps_octet s.direction s.steps
+abbrev pub direction_of : ℕ → Direction
+direction_of octet = cond (nat_lt octet 128) Delay Advance
 
-abbrev pub as_shift : Result Shift Refusal → Result ℕ Refusal
-as_shift (Ok s) = Ok (octet_of s)
-as_shift (Err e) = Err e
+abbrev pub steps_of : ℕ → ℕ
+steps_of octet = octet % 128
 
 abbrev pub some_steps : ℕ → Bool
 some_steps steps = nat_le 1 steps && nat_le steps 80

@@ -10,3 +10,6 @@ pub fn octets_for(bits: usize) -> usize
 {
     bits.div_ceil(8)
 }
+
+// The most octets of spare extension that a receiver takes after the fields of a control frame's payload.
+pub const MOST_SPARE: usize = 32;

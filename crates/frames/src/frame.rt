@@ -1,4 +1,5 @@
-// What a frame says. The payload is a part of the received octets: all that follows the header, from its place on.
+// What a frame says. A control frame's number is a plain one, below 4: a value with a lifetime that holds a type with a meaning of its own,
+// as `Number` has, is not covered where it goes through `?`, or whole to another function and is used again. The payload is a part of the received octets: all that follows the header, from its place on.
 use crate::data_type::DataType;
 use crate::procedure::Procedure;
 
@@ -30,9 +31,17 @@ pub struct Question<'a> {
     pub payload: &'a [u8],
 }
 
-// Ack or Nack: the ten bits of its checksum are spare.
+// Whether an answer accepts its question.
+#[derive(Clone, Copy, PartialEq, Eq, Debug)]
+pub enum AckNack {
+    Ack,
+    Nack,
+}
+
+// The ten bits of an answer's checksum are spare.
 #[derive(Clone, Copy)]
 pub struct Answer<'a> {
+    pub ack_nack: AckNack,
     pub number: u8,
     pub version: u8,
     pub procedure: Procedure,
@@ -44,6 +53,5 @@ pub struct Answer<'a> {
 pub enum Frame<'a> {
     UserData(UserData<'a>),
     Question(Question<'a>),
-    Ack(Answer<'a>),
-    Nack(Answer<'a>),
+    Answer(Answer<'a>),
 }

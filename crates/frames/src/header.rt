@@ -66,9 +66,7 @@ pub fn read_header(octets: &[u8]) -> Result<Header, Refusal>
     if octets.len() > LONGEST {
         return Err(Refusal::TooLong);
     }
-    let [first, second, third, rest @ ..] = octets else {
-        return Err(Refusal::TooShort);
-    };
+    let ([first, second, third], rest) = octets.split_first_chunk::<3>().ok_or(Refusal::TooShort)?;
     if third >> 2 != header_checksum(*first, *second) {
         return Err(Refusal::HeaderChecksum);
     }

@@ -1,26 +1,28 @@
-// A line of upper-case hexadecimal digits, read into octets.
-ghost use Rattle.std.specs.Prelude.{◌≡◌, ◌<◌, ◌%◌, true, length};
-ghost use Rattle.frames.specs.Hex.{is_digit, value_of, pair_in, all_digits, hex_in};
+// A line of upper-case hexadecimal digits, read into octets, and octets written as such digits.
+ghost use Rattle.std.specs.Prelude.{◌≡◌, ◌<◌, ◌≤◌, ◌%◌, true, length, Ok, Some};
+ghost use Rattle.std.specs.Option.{IfSome};
+ghost use Rattle.frames.specs.Hex.{is_digit, value_in, pair_in, all_digits, hex_in, hex_text};
 
 use crate::octets::Octets;
 use crate::refusal::Refusal;
+use std::fmt;
+use std::marker::Model;
 
 // Whether a byte of text is an upper-case digit.
 pub fn is_digit(byte: u8) -> bool
     ensures { result ≡ is_digit byte }
 {
-    matches!(byte, b'0'..=b'9' | b'A'..=b'F')
+    value(byte).is_some()
 }
 
-fn value(digit: u8) -> u8
-    requires { is_digit digit ≡ true }
-    ensures is { result ≡ value_of digit }
-    ensures half { result < 16 }
+fn value(digit: u8) -> Option<u8>
+    ensures is { result ≡ value_in digit }
+    ensures half { IfSome result (λ v. v < 16) }
 {
-    if digit < b'A' {
-        digit - b'0'
-    } else {
-        digit - b'A' + 10
+    match digit {
+        b'0'..=b'9' => Some(digit - b'0'),
+        b'A'..=b'F' => Some(digit - b'A' + 10),
+        _ => None,
     }
 }
 
@@ -28,10 +30,10 @@ fn value(digit: u8) -> u8
 pub fn read_pair(high: u8, low: u8) -> Result<u8, Refusal>
     ensures { result ≡ pair_in high low }
 {
-    if !is_digit(high) || !is_digit(low) {
-        return Err(Refusal::Hexadecimal);
+    match (value(high), value(low)) {
+        (Some(high), Some(low)) => Ok(high * 16 + low),
+        _ => Err(Refusal::Hexadecimal),
     }
-    Ok(value(high) * 16 + value(low))
 }
 
 fn all_digits(line: &[u8]) -> bool
@@ -47,8 +49,9 @@ fn paired(digits: &[u8]) -> Result<Octets, Refusal>
     ensures { result ≡ hex_in digits.now }
 {
     let mut octets = Octets::new();
-    for pair in digits.chunks_exact(2) {
-        octets.push(read_pair(pair[0], pair[1])?)?;
+    let (pairs, _) = digits.as_chunks::<2>();
+    for [high, low] in pairs {
+        octets.push(read_pair(*high, *low)?)?;
     }
     Ok(octets)
 }
@@ -57,8 +60,45 @@ fn paired(digits: &[u8]) -> Result<Octets, Refusal>
 pub fn read_hex(line: &[u8]) -> Result<Octets, Refusal>
     ensures { result ≡ hex_in line.now }
 {
+    // all are looked at first: a strange digit is told before a line that is too long
     if !all_digits(line) || line.len() % 2 != 0 {
         return Err(Refusal::Hexadecimal);
     }
     paired(line)
+}
+
+// Octets that are printed as digits, two for each.
+#[derive(Drop)]
+pub struct Hex<'a> {
+    octets: &'a [u8],
+}
+
+impl<'a> Model for Hex<'a> {
+    ghost use Rattle.std.specs.Prelude.{ℕ, List};
+
+    ghost Value = { List ℕ };
+
+    ghost view = { λ h. h.octets.now };
+}
+
+impl<'a> Hex<'a> {
+    // As many octets as a frame has are read back from what is printed.
+    pub fn of(octets: &'a [u8]) -> Hex<'a>
+        ensures is { result ≡ octets.now }
+        ensures back { length octets.now ≤ 512 → hex_in (hex_text octets.now) ≡ Ok octets.now }
+    {
+        Hex { octets }
+    }
+}
+
+impl<'a> fmt::Display for Hex<'a> {
+    ghost output = { λ hex. Some (hex_text hex) };
+
+    fn fmt<W: fmt::Write>(&self, f: &mut fmt::Formatter<W>) -> fmt::Result {
+        for octet in self.octets {
+            let octet = *octet;
+            write!(f, "{octet:02X}")?;
+        }
+        Ok(())
+    }
 }

@@ -1,10 +1,9 @@
-// Frames of the Iu user plane: why one is refused, its octets by value, its header, what it says, and how it is built.
+// Frames of the Iu user plane: why one is refused, numbers in a range, rows by value, hexadecimal, a frame's header and what it says.
 
 #![tactic(auto)]
 
 pub mod cause;
 pub mod control_kind;
-mod counting;
 pub mod data_type;
 pub mod distance;
 pub mod extent;
@@ -15,8 +14,8 @@ pub mod mask;
 pub mod number;
 pub mod octets;
 pub mod procedure;
+pub mod ranged;
 pub mod reading;
 pub mod refusal;
 pub mod row;
 pub mod shift;
-mod values;

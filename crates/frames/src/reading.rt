@@ -5,7 +5,7 @@ ghost use Rattle.frames.specs.declared.header.PduType.TheVariants.{Control};
 
 use crate::control_kind::ControlKind;
 use crate::data_type::DataType;
-use crate::frame::{Answer, DataHeader, Frame, Question, UserData};
+use crate::frame::{AckNack, Answer, DataHeader, Frame, Question, UserData};
 use crate::header::{PduType, read_header};
 use crate::procedure::Procedure;
 use crate::refusal::Refusal;
@@ -40,24 +40,31 @@ fn read_control<'a>(
     ensures { seen result ≡ contents Control (first ∷ second ∷ third ∷ fourth ∷ payload.now) }
 {
     let kind = ControlKind::try_from((first >> 2) % 4)?;
-    let answer = Answer {
-        number: first % 4,
-        version: second >> 4,
-        procedure: Procedure::try_from(second % 16)?,
-        place: 4,
-        payload,
+    let number = first % 4;
+    let version = second >> 4;
+    let procedure = Procedure::try_from(second % 16)?;
+    let place = 4;
+    let answer = |ack_nack| {
+        Frame::Answer(Answer {
+            ack_nack,
+            number,
+            version,
+            procedure,
+            place,
+            payload,
+        })
     };
     Ok(match kind {
         ControlKind::Question => Frame::Question(Question {
-            number: answer.number,
-            version: answer.version,
-            procedure: answer.procedure,
+            number,
+            version,
+            procedure,
             checksum: sum_field(third, fourth),
-            place: answer.place,
+            place,
             payload,
         }),
-        ControlKind::Ack => Frame::Ack(answer),
-        ControlKind::Nack => Frame::Nack(answer),
+        ControlKind::Ack => answer(AckNack::Ack),
+        ControlKind::Nack => answer(AckNack::Nack),
     })
 }
 

@@ -8,6 +8,7 @@ use std::alloc::AllocError;
 use std::marker::Model;
 
 // What lies in a cell that holds no item.
+// (d): std's `Default` names a relation that its value holds, and the invariant and the inverse of a row need the value itself.
 pub trait Blank: Copy {
     ghost blank: { Self };
 
@@ -42,6 +43,7 @@ impl<T: Blank, const N: usize> Model for Row<T, N> {
     ghost inverse = { λ xs. record { cells = xs ++ replicate (N - length xs) T.blank; len = length xs } };
 }
 
+// (c): a derived one of a generic type with a model is not proved.
 impl<T: Blank, const N: usize> Clone for Row<T, N> {
     ghost is_clone = { λ a b. b ≡ a };
 

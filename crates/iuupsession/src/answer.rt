@@ -1,5 +1,6 @@
 // What a line of a script is answered: what was done, or why there was no call or it was refused.
-use crate::printing::{Hex, Standing};
+use crate::printing::Standing;
+use frames::hex::Hex;
 use frames::octets::Octets;
 use frames::refusal::Refusal;
 use radio_end::received::Received;
@@ -21,13 +22,13 @@ impl fmt::Display for Answer {
             Answer::Done => write!(f, "ok"),
             Answer::Found { rfci } => write!(f, "ok {rfci}"),
             Answer::Received(Received::Delivered) => write!(f, "ok delivered"),
-            Answer::Received(Received::ErrorEvent(cause, distance)) => {
+            Answer::Received(Received::ErrorEvent { cause, distance }) => {
                 write!(f, "ok event {cause} {distance}")
             }
             Answer::Received(Received::Ack) => write!(f, "ok ack"),
             Answer::Received(Received::Nack(cause)) => write!(f, "ok nack {cause}"),
             Answer::Taken(None) | Answer::InForce(None) => write!(f, "ok none"),
-            Answer::Taken(Some(frame)) => write!(f, "ok {}", Hex(frame.as_slice())),
+            Answer::Taken(Some(frame)) => write!(f, "ok {}", Hex::of(frame.as_slice())),
             Answer::InForce(Some(set)) => write!(f, "ok {}", Standing(set)),
         }
     }

@@ -1,35 +1,31 @@
 // What a line of a script asks for.
+use crate::preparing::LineSize;
 use crate::reading::{Cursor, Misread};
-use bearer::settings::{Numbering, Timing};
+use bearer::settings::{Numbering, Settings, Timing};
+use cells::count::CellCount;
+use frames::cause::Cause;
+use frames::mask::MOST_MARKS;
+use frames::refusal::Refusal;
 use frames::shift::Direction;
+use ring::size::RingSize;
 use script::marks::read_marks;
 use script::names::{End, Request, Verb, read_choice, read_request, read_verb};
 use script::unclear::Unclear;
+use sets::opening::Opening;
 use std::alloc::Global;
-
-// Settings as they were written, not yet checked.
-#[derive(Clone, Copy)]
-pub struct Wishes {
-    pub initialisation: Timing,
-    pub rate: Timing,
-    pub alignment: Timing,
-    pub numbering: Numbering,
-    pub keep_damaged: bool,
-    pub mark: u8,
-}
 
 // A call on an end that is open.
 #[derive(Drop)]
 pub enum Call {
     Start,
-    Rate { bars: [bool; 63] },
+    Rate { bars: [bool; MOST_MARKS] },
     Align { direction: Direction, steps: u8 },
     Data { rfci: u8, fqc: u8, payload: Vec<u8> },
     Report { cause: u8 },
     Search { sizes: Vec<u16> },
     Receive { frame: Vec<u8> },
     Accept,
-    Decline { cause: u8 },
+    Decline { cause: Cause },
     Set,
     Tick,
     Take,
@@ -37,30 +33,22 @@ pub enum Call {
 
 #[derive(Drop)]
 pub enum Command {
-    Draft {
-        subflows: u8,
-        timed: bool,
-        data_type: u8,
-    },
-    Add {
-        rfci: u8,
-        ipti: u8,
-        sizes: Vec<u16>,
-    },
+    // the opening values that were written, or why no draft has such
+    Draft(Result<Opening, Refusal>),
+    Add { rfci: u8, ipti: u8, sizes: Vec<u16> },
     Close,
-    Settings(Wishes),
-    Line {
-        kind: LineKind,
-        size: usize,
-    },
+    // the settings that were written, or why no end has such
+    Settings(Result<Settings, Refusal>),
+    // the size that was written, or why no line has such
+    Line(Result<LineSize, Refusal>),
     Open(End),
     At(End, Call),
     Carry(End),
 }
 
-// A line is cells, so many, or a ring of so many octets.
+// What the script names: cells, so many, or a ring of so many octets. A size is checked before it is one.
 #[derive(Clone, Copy)]
-pub enum LineKind {
+enum LineKind {
     Cells,
     Ring,
 }
@@ -70,11 +58,7 @@ impl Cursor<'_> {
         let subflows = self.number()?;
         let timed = self.number()?;
         let data_type = self.number()?;
-        Ok(Command::Draft {
-            subflows,
-            timed,
-            data_type,
-        })
+        Ok(Command::Draft(Opening::new(subflows, timed, data_type)))
     }
 
     fn combination(&mut self) -> Result<Command, Misread> {
@@ -101,14 +85,14 @@ impl Cursor<'_> {
         )?;
         let keep_damaged = read_choice(self.word()?, (b"keep", true), (b"drop", false))?;
         let mark = self.number()?;
-        Ok(Command::Settings(Wishes {
+        Ok(Command::Settings(Settings::new(
             initialisation,
             rate,
             alignment,
             numbering,
             keep_damaged,
             mark,
-        }))
+        )))
     }
 
     fn line(&mut self) -> Result<Command, Unclear> {
@@ -118,7 +102,10 @@ impl Cursor<'_> {
             (b"ring", LineKind::Ring),
         )?;
         let size = self.number()?;
-        Ok(Command::Line { kind, size })
+        Ok(Command::Line(match kind {
+            LineKind::Cells => CellCount::new(size).map(|count| LineSize::Cells(count)),
+            LineKind::Ring => RingSize::new(size).map(|size| LineSize::Ring(size)),
+        }))
     }
 
     fn carry(&mut self) -> Result<Command, Unclear> {
@@ -148,8 +135,10 @@ impl Cursor<'_> {
     }
 
     fn decline(&mut self) -> Result<Call, Unclear> {
-        match self.number()? {
-            cause @ (47u8 | 48) => Ok(Call::Decline { cause }),
+        match Cause::within(self.number()?) {
+            Some(cause @ (Cause::ALIGNMENT_NOT_SUPPORTED | Cause::ALIGNMENT_NOT_POSSIBLE)) => {
+                Ok(Call::Decline { cause })
+            }
             _ => Err(Unclear::Value),
         }
     }

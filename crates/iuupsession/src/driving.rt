@@ -10,10 +10,10 @@ use sets::closed::Set;
 
 fn take<L: Line>(radio: &mut RadioEnd<L>) -> Result<Option<Octets>, Refusal> {
     let mut buffer = [0; LONGEST];
-    match radio.take(&mut buffer)? {
-        Some(length) => Ok(Some(Octets::of_parts(&buffer[..length], &[])?)),
-        None => Ok(None),
-    }
+    let length = radio.take(&mut buffer)?;
+    length
+        .map(|length| Octets::of_slice(&buffer[..length]))
+        .transpose()
 }
 
 pub(crate) fn drive<L: Line>(

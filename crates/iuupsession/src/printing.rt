@@ -1,22 +1,10 @@
-// How octets, sets and what a report tells are written.
+// How sets and what a report tells are written.
+use frames::hex::Hex;
 use reports::ending::{Ending, Kind};
 use reports::happening::{Delivery, Happening};
 use set_in_force::in_force::InForce;
 use sets::combination::Combination;
 use std::fmt;
-
-// Octets, in upper-case hexadecimal digits.
-#[derive(Clone, Copy)]
-pub struct Hex<'a>(pub &'a [u8]);
-
-impl<'a> fmt::Display for Hex<'a> {
-    fn fmt<W: fmt::Write>(&self, f: &mut fmt::Formatter<W>) -> fmt::Result {
-        for octet in self.0 {
-            write!(f, "{octet:02X}")?;
-        }
-        Ok(())
-    }
-}
 
 #[derive(Clone, Copy)]
 struct KindName(Kind);
@@ -61,7 +49,7 @@ impl fmt::Display for Delivered {
         } = self.0;
         write!(f, "{rfci} {fqc} {gap} {place}")?;
         for part in subflows.as_slice() {
-            write!(f, " {}+{}", part.first, part.bits)?;
+            write!(f, " {part}")?;
         }
         Ok(())
     }
@@ -79,8 +67,8 @@ impl fmt::Display for Said {
                 write!(f, "ended {} {}", KindName(kind), Outcome(ending))
             }
             Happening::Delivered(delivery) => write!(f, "delivered {}", Delivered(delivery)),
-            Happening::HandedOver(frame) => write!(f, "handed {}", Hex(frame.as_slice())),
-            Happening::Refused(frame) => write!(f, "refused {}", Hex(frame.as_slice())),
+            Happening::HandedOver(frame) => write!(f, "handed {}", Hex::of(frame.as_slice())),
+            Happening::Refused(frame) => write!(f, "refused {}", Hex::of(frame.as_slice())),
         }
     }
 }

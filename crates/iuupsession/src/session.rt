@@ -66,15 +66,11 @@ impl Session {
 
     fn obey(&mut self, command: Command, report: &mut Report) -> Result<Answer, Complaint> {
         match command {
-            Command::Draft {
-                subflows,
-                timed,
-                data_type,
-            } => self.prepared.open_draft(subflows, timed, data_type)?,
+            Command::Draft(opening) => self.prepared.open_draft(opening?),
             Command::Add { rfci, ipti, sizes } => self.prepared.add(rfci, ipti, sizes.as_slice())?,
             Command::Close => self.prepared.close()?,
-            Command::Settings(wishes) => self.prepared.settle(wishes)?,
-            Command::Line { kind, size } => self.prepared.measure(kind, size)?,
+            Command::Settings(settings) => self.prepared.settings = Some(settings?),
+            Command::Line(size) => self.prepared.size = Some(size?),
             Command::Open(End::Radio) => self.open_radio()?,
             Command::At(End::Radio, call) => return self.call_radio(call, report),
             Command::Open(End::Core) | Command::At(End::Core, _) | Command::Carry(_) => {

@@ -8,6 +8,7 @@ use showing::gathering::Gathered;
 use std::io;
 use std::io::{BufWriter, Read, Write};
 
+// A `Result` is not this program's own: a type for its print would be no plainer.
 fn print_answer(answer: Result<Header, Refusal>, out: &mut impl Write) -> io::Result<()> {
     match answer {
         Ok(header) => writeln!(out, "{header}"),

@@ -2,13 +2,10 @@
 
 #![tactic(auto)]
 
-ghost use Rattle.std.specs.Prelude.{◌≤◌};
-ghost use Rattle.frames.specs.Frame.{longest};
-
 use cells::cells::Cells;
 use cells::count::CellCount;
 use cells::store::CellStore;
-use frames::octets::LONGEST;
+use frames::octets::{LONGEST, Octets};
 use frames::refusal::Refusal;
 use lines::line::Line;
 use lines::queue::Queue;
@@ -24,27 +21,19 @@ const BUFFER: usize = 600;
 
 const STALE: u8 = 0xEE;
 
-// The length of the frame with this serial number.
-fn length_of(serial: usize) -> usize
-    ensures { result ≤ longest }
-{
-    match serial % 6 {
-        0 => 1,
-        1 => 512,
-        2 => 2,
-        3 => 511,
-        4 => 255,
-        _ => 256,
-    }
-}
+// The shortest and the longest, and on both sides of one octet of length, in turn.
+const LENGTHS: [usize; 6] = [1, 512, 2, 511, 255, 256];
 
-// Octets that differ from frame to frame and from place to place.
-fn draw(octets: &mut [u8], serial: usize) {
+// The frame with this serial number: its octets differ from frame to frame and from place to place.
+fn frame_of(serial: usize) -> Octets {
     let mut octet = (serial % 251) as u8;
-    for place in octets.iter_mut() {
-        *place = octet;
+    let mut frame = Octets::new();
+    for _ in 0..LENGTHS[serial % 6] {
+        // octets are repeated, and nothing is indexed; no length is more than a frame has
+        let _ = frame.push(octet);
         octet = octet.wrapping_mul(5).wrapping_add(7);
     }
+    frame
 }
 
 fn all_stale(octets: &[u8]) -> bool {
@@ -53,13 +42,8 @@ fn all_stale(octets: &[u8]) -> bool {
 
 // Whether the buffer holds the frame with this serial number, and is untouched behind it.
 fn is_frame(out: &[u8], length: usize, serial: usize) -> bool {
-    let n = length_of(serial);
-    let mut octets = [0; LONGEST];
-    draw(&mut octets, serial);
-    match out.split_at_checked(n) {
-        Some((frame, rest)) => length == n && frame == &octets[..n] && all_stale(rest),
-        None => false,
-    }
+    out.split_at_checked(length).is_some_and(|(frame, rest)| frame == frame_of(serial).as_slice()
+        && all_stale(rest))
 }
 
 fn is_sent<L: Line>(sender: &mut Sender<L>, frame: &[u8]) -> bool {
@@ -73,10 +57,9 @@ fn refuses<L: Line>(sender: &mut Sender<L>, frame: &[u8]) -> bool {
 
 // Whether the line says that it takes the frame with this serial number, and takes it.
 fn takes<L: Line>(sender: &mut Sender<L>, serial: usize) -> bool {
-    let mut octets = [0; LONGEST];
-    draw(&mut octets, serial);
-    let n = length_of(serial);
-    sender.takes_length(n) && is_sent(sender, &octets[..n])
+    let octets = frame_of(serial);
+    let frame = octets.as_slice();
+    sender.takes_length(frame.len()) && is_sent(sender, frame)
 }
 
 // Puts frames from this serial number on until one is refused, and tells the number of that one.
@@ -90,10 +73,7 @@ fn fill<L: Line>(sender: &mut Sender<L>, from: usize) -> usize {
 // Whether the line gives the frame with this serial number.
 fn gives<L: Line>(sender: &mut Sender<L>, serial: usize) -> bool {
     let mut out = [STALE; BUFFER];
-    match sender.take(&mut out) {
-        Ok(Some(n)) => is_frame(&out, n, serial),
-        _ => false,
-    }
+    matches!(sender.take(&mut out), Ok(Some(n)) if is_frame(&out, n, serial))
 }
 
 // Takes the frames with these serial numbers, and tells how many were not as they were put.
@@ -144,10 +124,10 @@ fn rounds<L: Line>(sender: &mut Sender<L>) -> (usize, usize) {
 
 // Puts a frame on both lines where both take it.
 fn put_both<A: Line, B: Line>(a: &mut Sender<A>, b: &mut Sender<B>, serial: usize) -> bool {
-    let mut octets = [0; LONGEST];
-    draw(&mut octets, serial);
-    let n = length_of(serial);
-    a.takes_length(n) && b.takes_length(n) && is_sent(a, &octets[..n]) && is_sent(b, &octets[..n])
+    let octets = frame_of(serial);
+    let frame = octets.as_slice();
+    let n = frame.len();
+    a.takes_length(n) && b.takes_length(n) && is_sent(a, frame) && is_sent(b, frame)
 }
 
 // Whether both lines give the frame with this serial number, and leave the same in their buffers.

@@ -1,9 +1,10 @@
 -- What a write behind a window, and a step of its head, leave.
-use Rattle.std.proofs.Common.{◌≡◌, ℕ, zero, suc, ◌+◌, ◌-◌, ◌<◌, ◌≤◌, ◌≢◌, List, [], ◌∷◌, ◌++◌, length, get_or, take, drop, set, sym, refl, ap, ◌∙◌, ⊎_elim, arith}
+use Rattle.std.proofs.Common.{◌≡◌, ℕ, zero, suc, ◌+◌, ◌-◌, ◌<◌, ◌≤◌, ◌≢◌, Bool, true, false, cond, List, [], ◌∷◌, ◌++◌, length, get_or, take, drop, set, Some, None, Option, nat_le, sym, refl, ap, subst, ◌∙◌, ⊎_elim, arith}
+use Rattle.std.specs.Option.{is_some, IsSome}
 use Rattle.std.proofs.lemmas.List.{get_or-set_same, get_or-set_other, ext_get_or, get_or_append_left, get_or-append_right, length-append}
 use Rattle.std.proofs.lemmas.Bool.{cases_lt}
 use Rattle.std.proofs.lemmas.Bool.Decides.{nat_tests}
-use Rattle.lines.specs.Circle.{place, window}
+use Rattle.lines.specs.Circle.{place, window, Turn, Round, gain_at, gained, lose_at, lost}
 
 pub place-0 : (size head : ℕ) → head < size → place size head 0 ≡ head
 place-0 size head h = grind (arith, nat_tests)
@@ -109,3 +110,55 @@ window_is d xs w size head h l same =
     let long = length_window d xs size head (length w) in
     ext_get_or d (window d xs size head (length w)) w long
     (λ k i. get_or-window d xs size head (length w) k h l (omega arith) ∙ sym (same k (omega arith)))
+
+-- a call that changes the places, and tells one, where a test holds: what its answer says of the test
+unchanged : (b : Bool) (x : ℕ) (t u t' : Turn) (r : Option ℕ) → r ≡ cond b (Some x) None → t' ≡ cond b u t → false ≡ is_some r → (b ≡ false) × (t' ≡ t)
+unchanged true x t u t' r told turns none = let no = none ∙ ap is_some told in absurd cc
+unchanged false x t u t' r told turns none = (refl, turns)
+
+changed : (b : Bool) (x : ℕ) (t u t' : Turn) (r : Option ℕ) → r ≡ cond b (Some x) None → t' ≡ cond b u t → (at : ℕ) → r ≡ Some at → (b ≡ true) × (at ≡ x) × (t' ≡ u)
+changed true x t u t' r told turns at some = let is = sym some ∙ told in (refl, cc, turns)
+changed false x t u t' r told turns at some = let is = sym some ∙ told in absurd cc
+
+module _ (n : ℕ) (t t' : Turn) (r : Option ℕ) (told : r ≡ gain_at n t) (turns : t' ≡ gained n t) where
+  -- no place is told where too few are free, and nothing changes
+  pub gained_none : false ≡ is_some r → (t.size < t.used + n) × (t' ≡ t)
+  gained_none none =
+      let is = unchanged (nat_le n (t.size - t.used)) (place t.size t.head t.used) t _ t' r told turns none in
+      let few = is.0 in
+      (grind (arith, nat_tests), is.1)
+
+  -- where one is told, n places were free
+  pub gained_some : Round t → (at : ℕ) → r ≡ Some at → (t.used + n ≤ t.size) × (at ≡ place t.size t.head t.used) × (t' ≡ record { size = t.size; head = t.head; used = t.used + n })
+  gained_some round at some =
+      let is = changed (nat_le n (t.size - t.used)) (place t.size t.head t.used) t _ t' r told turns at some in
+      let enough = is.0 in
+      let within = round.within in
+      (grind (arith, nat_tests), is.1, is.2)
+
+module _ (n : ℕ) (t t' : Turn) (r : Option ℕ) (told : r ≡ lose_at n t) (turns : t' ≡ lost n t) where
+  -- no place is told where too few are in use, and nothing changes
+  pub lost_none : false ≡ is_some r → (t.used < n) × (t' ≡ t)
+  lost_none none =
+      let is = unchanged (nat_le n t.used) t.head t _ t' r told turns none in
+      let few = is.0 in
+      (grind (arith, nat_tests), is.1)
+
+  -- where one is told, n were in use
+  pub lost_some : (at : ℕ) → r ≡ Some at → (n ≤ t.used) × (at ≡ t.head) × (t' ≡ record { size = t.size; head = place t.size t.head n; used = t.used - n })
+  lost_some at some =
+      let is = changed (nat_le n t.used) t.head t _ t' r told turns at some in
+      let enough = is.0 in
+      (grind (arith, nat_tests), is.1, is.2)
+
+-- where n places are free, one is told
+pub gain_some : (n : ℕ) (t : Turn) (r : Option ℕ) → r ≡ gain_at n t → t.used + n ≤ t.size → IsSome r
+gain_some n t r told left =
+    let enough : nat_le n (t.size - t.used) ≡ true = grind (arith, nat_tests) in
+    subst IsSome (sym (told ∙ ap (λ b. cond b (Some (place t.size t.head t.used)) None) enough)) refl
+
+-- where n are in use, one is told
+pub lose_some : (n : ℕ) (t : Turn) (r : Option ℕ) → r ≡ lose_at n t → n ≤ t.used → IsSome r
+lose_some n t r told used =
+    let enough : nat_le n t.used ≡ true = grind (arith, nat_tests) in
+    subst IsSome (sym (told ∙ ap (λ b. cond b (Some t.head) None) enough)) refl

@@ -2,6 +2,7 @@
 
 #![tactic(auto)]
 
+pub mod length;
 pub mod line;
 pub mod queue;
 pub mod sender;

@@ -1,4 +1,5 @@
-// How large a store is: a number in a range that its kind gives.
+// How large a store is: a number in a range that its kind gives. `frames::ranged::Ranged` is not it: its number has the width of
+// its const parameters, an octet, and a ring has up to 65,536 places.
 ghost use Rattle.std.specs.Prelude.{◌≡◌, ◌≤◌};
 ghost use Rattle.lines.specs.Sizes.{size_in};
 
@@ -26,7 +27,7 @@ impl<const LEAST: usize, const MOST: usize> Size<LEAST, MOST> {
     pub fn new(places: usize) -> Result<Size<LEAST, MOST>, Refusal>
         ensures { result ≡ size_in LEAST MOST places }
     {
-        if places < LEAST || places > MOST {
+        if !(LEAST..=MOST).contains(&places) {
             return Err(Refusal::SettingRange);
         }
         Ok(Size { places })

@@ -1,9 +1,8 @@
 // What a queue keeps its frames in: a store of some size, filled behind the last frame and emptied from the oldest on.
 ghost use Rattle.std.specs.Prelude.{◌≡◌, ℕ, ◌≤◌, Bool, true, List, [], ◌∷◌, length};
-ghost use Rattle.lines.specs.Meaning.{fits, sends, accepted, Passed};
+ghost use Rattle.lines.specs.Meaning.{fits, sends, accepted, roomy, Passed};
 ghost use Rattle.lines.specs.Stores.{Popped};
 
-use frames::octets::LONGEST;
 use frames::refusal::Refusal;
 
 pub trait Store {
@@ -34,9 +33,10 @@ pub trait Store {
         ensures frames { Passed frames self.old self.new (sends (room (size self.old) (frames self.old) (length frame.now)) frame.now) }
         ensures size { size self.new ≡ size self.old };
 
-    // Moves the oldest frame to the start of `out`, and tells its length; none where there is no frame.
-    fn pop(&mut self, out: &mut [u8; LONGEST]) -> Option<usize>
-        ensures frames { Popped frames (frames self.old) self.old self.new out.old out.new result }
+    // Moves the oldest frame to the start of `out`, and tells its length; none where there is no frame. A buffer that is
+    // too small for the longest frame is refused, and nothing changes.
+    fn pop(&mut self, out: &mut [u8]) -> Result<Option<usize>, Refusal>
+        ensures frames { Popped frames (roomy out.old) (frames self.old) self.old self.new out.old out.new result }
         ensures size { size self.new ≡ size self.old };
 
     ghost spacious: { (s : Self) (n : ℕ) → room (size s) [] n ≡ fits n };

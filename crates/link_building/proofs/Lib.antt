@@ -1,3 +1,4 @@
 pub mod Writes
 pub mod Parts
 pub mod Chunks
+pub mod Lengths

@@ -1,37 +1,12 @@
 -- The rows of a part of a set, one by one and two by two.
 -- Assumes nothing.
-use Rattle.std.proofs.Common.{◌≡◌, ℕ, ◌+◌, ◌<◌, ◌≤◌, min, Bool, true, not, ◌&&◌, eqb, List, [], ◌∷◌, ◌++◌, length, get_or, take, drop, All, sym, refl, ap, ◌∙◌, arith}
-use Rattle.std.proofs.lemmas.List.{length-append, append-nil, take-append-drop, append_assoc}
-use Rattle.std.proofs.lemmas.Bool.{and_parts, and_from}
-use Rattle.sets.specs.Rows.{Row, fresh, fits, sound}
+use Rattle.std.proofs.Common.{◌≡◌, ℕ, ◌+◌, ◌<◌, ◌≤◌, min, Bool, true, false, eqb, List, [], ◌∷◌, ◌++◌, length, get_or, drop, All, sym, refl, ap, ◌∙◌, arith}
+use Rattle.std.proofs.lemmas.List.{length-append, length_push, get_or_append_left, get_or_push, append-nil, append_assoc}
+use Rattle.std.proofs.lemmas.Bool.Decides.{nat_tests}
+use Rattle.sets.specs.Rows.{Row, sound}
 use Rattle.sets.proofs.Fitting.{fit_at, ipti_small}
 use Rattle.link_building.specs.Wire.{combination, combinations, nibbles}
 use Rattle.link_building.proofs.Writes.{combinations_more}
-
-fresh_front : (m : ℕ) (xs ys : List Row) → fresh m (xs ++ ys) ≡ true → fresh m xs ≡ true
-unfolding fresh
-fresh_front m [] ys h = refl
-fresh_front m (x ∷ xs) ys h =
-    let p = and_parts (not (eqb x.rfci m)) (fresh m (xs ++ ys)) h in
-    and_from (not (eqb x.rfci m)) (fresh m xs) p.0 (fresh_front m xs ys p.1)
-
--- sound rows in two parts
-sound_parts : (n : ℕ) (ti : Bool) (xs ys : List Row) → sound n ti (xs ++ ys) ≡ true → (sound n ti xs ≡ true) × (sound n ti ys ≡ true)
-unfolding sound
-sound_parts n ti [] ys h = (refl, h)
-sound_parts n ti (x ∷ xs) ys h =
-    let p = and_parts (fits n ti x) (fresh x.rfci (xs ++ ys) && sound n ti (xs ++ ys)) h in
-    let q = and_parts (fresh x.rfci (xs ++ ys)) (sound n ti (xs ++ ys)) p.1 in
-    let i = sound_parts n ti xs ys q.1 in
-    (and_from (fits n ti x) (fresh x.rfci xs && sound n ti xs) p.0 (and_from (fresh x.rfci xs) (sound n ti xs) (fresh_front x.rfci xs ys q.0) i.0), i.1)
-
-pub sound_split : (n : ℕ) (ti : Bool) (all xs ys : List Row) → all ≡ xs ++ ys → sound n ti all ≡ true → (sound n ti xs ≡ true) × (sound n ti ys ≡ true)
-sound_split n ti all xs ys e s = sound_parts n ti xs ys (sym (ap (sound n ti) e) ∙ s)
-
-pub sound_part : (n : ℕ) (ti : Bool) (all : List Row) (k : ℕ) → sound n ti all ≡ true → sound n ti (take 8 (drop k all)) ≡ true
-sound_part n ti all k s =
-    let r = sound_split n ti all (take k all) (drop k all) (sym (take-append-drop k all)) s in
-    (sound_split n ti (drop k all) (take 8 (drop k all)) (drop 8 (drop k all)) (sym (take-append-drop 8 (drop k all))) r.1).0
 
 pub iptis_small : (n : ℕ) (ti : Bool) (rs : List Row) → sound n ti rs ≡ true → All (λ (r : Row). r.ipti ≤ 15) rs
 iptis_small n ti rs s = λ k d h. ipti_small n ti (get_or rs k d) (fit_at n ti rs k d s h)
@@ -40,6 +15,22 @@ iptis_small n ti rs s = λ k d h. ipti_small n ti (get_or rs k d) (fit_at n ti r
 pub combination_turn : (cs rs : List Row) (j : ℕ) (d : Row) (last : Bool) (was out : List ℕ) → cs ≡ rs → j < length cs → last ≡ eqb (j + 1) (length cs)
     → out ≡ was ++ combination last (get_or cs j d).rfci (get_or cs j d).sizes → out ++ combinations (drop (j + 1) rs) ≡ was ++ combinations (drop j rs)
 combination_turn cs rs j d last was out v h l e = rw (← v) (combinations_more cs j d last was out h l e)
+
+-- where a row stands among others, and whether it is the last
+pub record Stands (cs : List Row) (j : ℕ) (r : Row) (last : Bool) : Type 0 where
+  pub is : r ≡ get_or cs j r
+  pub within : j < length cs
+  pub ends : last ≡ eqb (j + 1) (length cs)
+
+pub other_stands : (cs ys : List Row) (x r : Row) (j : ℕ) → cs ≡ ys ++ x ∷ [] → r ≡ get_or ys j r → j < length ys → Stands cs j r false
+other_stands cs ys x r j e i h =
+    let l = ap length e ∙ length_push ys x in
+    record { is = i ∙ sym (get_or_append_left ys (x ∷ []) r j h) ∙ ap (λ rs. get_or rs j r) (sym e); within = omega arith; ends = grind (arith, nat_tests) }
+
+pub last_stands : (cs ys : List Row) (x : Row) → cs ≡ ys ++ x ∷ [] → Stands cs (length ys) x true
+last_stands cs ys x e =
+    let l = ap length e ∙ length_push ys x in
+    record { is = sym (get_or_push ys x x (length ys) refl) ∙ ap (λ rs. get_or rs (length ys) x) (sym e); within = omega arith; ends = grind (arith, nat_tests) }
 
 -- the IPTIs of two rows, or of the last one, and then the others
 nibbles_split : (xs ys : List Row) → 1 ≤ length xs → length xs ≤ 2 → (length xs < 2 → ys ≡ []) → nibbles (xs ++ ys) ≡ nibbles xs ++ nibbles ys

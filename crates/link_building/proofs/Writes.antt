@@ -49,13 +49,13 @@ unfolding combinations
 combinations_all rs j out h = ap (λ xs. out ++ xs) (at_drop_all combinations rs j h) ∙ append-nil out
 
 -- the parts of a payload, one after the other
-pub payload_is : (n : ℕ) (ti : Bool) (type : ℕ) (chain : Bool) (rs : List Row) (h : ℕ) (o a b d f g r : List ℕ)
-    → o ≡ [] → h ≡ cond ti 16 0 + n * 2 + cond chain 1 0 → a ≡ o ++ h ∷ [] → b ≡ a ++ combinations rs → d ≡ b ++ cond ti (nibbles rs) [] → f ≡ d ++ 0 ∷ [] → g ≡ f ++ 1 ∷ [] → r ≡ g ++ type * 16 ∷ []
+pub payload_is : (n : ℕ) (ti : Bool) (type : ℕ) (chain : Bool) (rs : List Row) (h : ℕ) (o a b d r : List ℕ)
+    → o ≡ [] → h ≡ cond ti 16 0 + n * 2 + cond chain 1 0 → a ≡ o ++ h ∷ [] → b ≡ a ++ combinations rs → d ≡ b ++ cond ti (nibbles rs) [] → r ≡ d ++ (0 ∷ 1 ∷ type * 16 ∷ [])
     → r ≡ payload n ti type chain rs
 unfolding payload
-payload_is n ti type chain rs h o a b d f g r eo eh ea eb ed ef eg er =
+payload_is n ti type chain rs h o a b d r eo eh ea eb ed er =
     let I : List ℕ = cond ti (nibbles rs) [] in
-    let all : r ≡ (((((([] ++ h ∷ []) ++ combinations rs) ++ I) ++ 0 ∷ []) ++ 1 ∷ []) ++ type * 16 ∷ []) = cc in
+    let all : r ≡ ((([] ++ h ∷ []) ++ combinations rs) ++ I) ++ (0 ∷ 1 ∷ type * 16 ∷ []) = cc in
     let end : List ℕ = combinations rs ++ (I ++ (0 ∷ 1 ∷ type * 16 ∷ [])) in
-    let flat : (((((([] ++ h ∷ []) ++ combinations rs) ++ I) ++ 0 ∷ []) ++ 1 ∷ []) ++ type * 16 ∷ []) ≡ h ∷ end = simp append_assoc in
+    let flat : ((([] ++ h ∷ []) ++ combinations rs) ++ I) ++ (0 ∷ 1 ∷ type * 16 ∷ []) ≡ h ∷ end = simp append_assoc in
     all ∙ flat ∙ ap (λ m. m ∷ end) eh

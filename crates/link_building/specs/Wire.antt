@@ -1,6 +1,7 @@
 -- The links of a set as octets.
 use Rattle.std.specs.Prelude.{ℕ, ◌+◌, ◌*◌, ◌/◌, ◌%◌, Bool, cond, List, [], ◌∷◌, ◌++◌, length, take, drop, Some, None, Option, ◌==◌, nat_lt}
 use Rattle.std.specs.List.{list_any}
+use Rattle.frames.specs.DataTypes.{data_number}
 use Rattle.sets.specs.Rows.{Row}
 use Rattle.sets.specs.Contents.{Contents}
 
@@ -38,7 +39,7 @@ payload n ti type chain rs =
 
 -- the same by what the rows of a link and the set's opening values say
 abbrev pub payload_of : Bool → Contents → List ℕ
-payload_of chain c = payload c.opening.subflows c.opening.timed c.opening.kind chain c.combinations
+payload_of chain c = payload c.opening.subflows c.opening.timed (data_number c.opening.data_type) chain c.combinations
 
 -- some rows, from a place on
 abbrev pub part : ℕ → ℕ → List Row → List Row
@@ -54,7 +55,7 @@ links_of rs = (length rs + 7) / 8
 
 -- the same by what a set says
 abbrev pub link_of : ℕ → Contents → List ℕ
-link_of k c = link k c.opening.subflows c.opening.timed c.opening.kind c.combinations
+link_of k c = link k c.opening.subflows c.opening.timed (data_number c.opening.data_type) c.combinations
 
 -- link k of a set, if it is sent in so many
 abbrev pub link_at : ℕ → Contents → Option (List ℕ)

@@ -33,6 +33,7 @@ impl Payload {
         self.row.as_slice()
     }
 
+    // That there is room is asked for where links are written: the reason stands there.
     pub(crate) fn push(&mut self, octet: u8)
         requires { length self.old < MOST_OCTETS }
         ensures { self.new ≡ self.old ++ octet ∷ [] }

@@ -14,11 +14,11 @@ use sets::closed::Set;
 // Link `number` of the set. One past the last is refused by 114; 104 where it is too long, which no link of a set is.
 #[tactic(auto, using(crate::proofs::Working::worked))]
 pub fn link_frame(set: &Set, number: Number) -> Result<Octets, Refusal>
-    ensures is { result ≡ link_frame number.value set.now }
-    ensures sure { number.value < links_of set.now.combinations → result ≡ Ok (link_frame_of number.value set.now) }
+    ensures is { result ≡ link_frame number set.now }
+    ensures sure { number < links_of set.now.combinations → result ≡ Ok (link_frame_of number set.now) }
     ensures worked { Worked }
 {
-    let payload = link_payload(set, number.value).ok_or(Refusal::ValueRange)?;
+    let payload = link_payload(set, number.value()).ok_or(Refusal::ValueRange)?;
     build_question(Procedure::Initialisation, number, payload.as_slice()).or(Err(
         Refusal::LinkTooLong,
     ))

@@ -1,6 +1,6 @@
 -- What is written is read back, part by part.
 -- Assumes nothing.
-use Rattle.std.proofs.Common.{◌≡◌, ℕ, zero, suc, ◌+◌, ◌/◌, ◌%◌, ◌<◌, ◌≤◌, Bool, true, false, cond, eqb, ltb, List, [], ◌∷◌, ◌++◌, length, get_or, drop, Some, sym, refl, ap, ◌∙◌, one-add, arith}
+use Rattle.std.proofs.Common.{◌≡◌, ℕ, zero, suc, ◌+◌, ◌%◌, ◌<◌, ◌≤◌, Bool, true, false, cond, eqb, ltb, List, [], ◌∷◌, ◌++◌, length, get_or, drop, Some, sym, refl, ap, ◌∙◌, one-add, arith}
 use Rattle.std.proofs.lemmas.List.{append_assoc, append-nil, length-append, drop_at}
 use Rattle.std.proofs.lemmas.Bool.{le-ltb, and_parts, eq-eqb, ne_eqb, cond-false}
 use Rattle.std.proofs.lemmas.Nat.{div-add-mod', div-mul-add, mod-mul-add}
@@ -113,12 +113,6 @@ unfolding nibbles halves
 halves_back [] rest t = tt
 halves_back (r ∷ []) rest t = (omega arith, tt)
 halves_back (r ∷ (s ∷ rs)) rest t = (div-mul-add r.ipti 16 s.ipti t.1.0, (mod-mul-add r.ipti 16 s.ipti t.1.0, halves_back rs rest t.1.1))
-
-pub nibbles-length : (rs : List Row) → length (nibbles rs) ≡ (length rs + 1) / 2
-unfolding nibbles
-nibbles-length [] = refl
-nibbles-length (r ∷ []) = refl
-nibbles-length (r ∷ (s ∷ rs)) = let a = nibbles-length rs in omega arith
 
 -- the rows that were written
 pub rows_back : (n : ℕ) (rs : List Row) (rest hs : List ℕ) → Good n rs → free rs ≡ true → Halved rs hs → rows_in (length rs) n (combinations rs ++ rest) hs ≡ rs

@@ -4,15 +4,17 @@ use Rattle.std.proofs.Common.{◌≡◌, ℕ, ◌%◌, ◌≤◌, Bool, true, fa
 use Rattle.std.proofs.lemmas.Bool.{le-ltb, ne_eqb}
 use Rattle.std.proofs.lemmas.Bool.Decides.{nat_tests}
 use Rattle.frames.specs.declared.refusal.Refusal.{Refusal}
-use Rattle.frames.specs.declared.refusal.Refusal.TheVariants.{Dimensions, UnexpectedValue, ModeVersion}
+use Rattle.frames.specs.declared.refusal.Refusal.TheVariants.{UnexpectedValue, ModeVersion}
 use Rattle.sets.specs.Rows.{Row}
+use Rattle.frames.specs.DataTypes.{data_number}
 use Rattle.sets.specs.Openings.{Values, opening_in}
+use Rattle.sets.proofs.Opens.{opening_typed}
 use Rattle.link_reading.specs.declared.fields.Fields.{Fields}
 use Rattle.link_reading.specs.Layout.{fields_of, rows_of}
 use Rattle.std.specs.Result.{result_or}
 use Rattle.link_reading.specs.Adding.{add_all, kept}
 use Rattle.link_reading.specs.Links.{Links}
-use Rattle.link_reading.specs.Holding.{values_in, follows, base, held_with, in_range, examined_by, examined, ruled}
+use Rattle.link_reading.specs.Holding.{follows, base, held_with, examined_by, examined, ruled_with, ruled}
 
 -- what is examined was read
 examined_some : (x : Option Fields) (f : Fields) → Ok f ≡ examined_by x → x ≡ Some f
@@ -32,33 +34,35 @@ pub examined-sound : (os : List ℕ) (f : Fields) → fields_of os ≡ Some f �
 unfolding examined
 examined-sound os f e o v = ap examined_by e ∙ rw (le-ltb 32 f.over o, ne_eqb (f.versions % 2) 0 v)
 
-pub ruled_range : (h : Links) (k : ℕ) (os : List ℕ) (f : Fields) → in_range f ≡ false → ruled h k os f ≡ Err UnexpectedValue
-unfolding ruled
-ruled_range h k os f r = rw r
+-- the opening values that fields ask for
+abbrev pub asked : Fields → Result Values Refusal
+asked f = opening_in f.subflows f.timed f.kind
 
-pub ruled_alone : (h : Links) (k : ℕ) (os : List ℕ) (f : Fields) → in_range f ≡ true → follows h k f ≡ false → ruled h k os f ≡ Err UnexpectedValue
+pub ruled_range : (h : Links) (k : ℕ) (os : List ℕ) (f : Fields) (e : Refusal) → asked f ≡ Err e → ruled h k os f ≡ Err UnexpectedValue
 unfolding ruled
-ruled_alone h k os f r w = rw (r, w)
+ruled_range h k os f e r = ap (ruled_with h k os f) r
 
-pub ruled-rows : (h : Links) (k : ℕ) (os : List ℕ) (f : Fields) (x : Option (List Row)) → in_range f ≡ true → follows h k f ≡ true
-    → x ≡ add_all f.subflows f.timed (base h k) (rows_of f os) → ruled h k os f ≡ held_with k f x
+pub ruled_alone : (h : Links) (k : ℕ) (os : List ℕ) (f : Fields) (o : Values) → asked f ≡ Ok o → follows h k f ≡ false → ruled h k os f ≡ Err UnexpectedValue
 unfolding ruled
-ruled-rows h k os f x r w a = rw (r, w) (ap (held_with k f) (sym a))
+ruled_alone h k os f o r w = ap (ruled_with h k os f) r ∙ rw w
+
+pub ruled-rows : (h : Links) (k : ℕ) (os : List ℕ) (f : Fields) (o : Values) (x : Option (List Row)) → asked f ≡ Ok o → follows h k f ≡ true
+    → x ≡ add_all f.subflows f.timed (base h k) (rows_of f os) → ruled h k os f ≡ held_with k f o x
+unfolding ruled
+ruled-rows h k os f o x r w a = ap (ruled_with h k os f) r ∙ rw w (ap (held_with k f o) (sym a))
 
 -- opening values that are asked for, with another refusal in place of their own
-pub range_refused : (f : Fields) (e u : Refusal) (x : Result Values Refusal) → x ≡ opening_in f.subflows f.timed f.kind → Err e ≡ result_or x (Err u) → (in_range f ≡ false) × (e ≡ u)
-range_refused f e u x i h = refused (in_range f) (h ∙ ap (λ y. result_or y (Err u)) i)
-  where
-    refused : (b : Bool) → ◌≡◌ {A = Result Values Refusal} (Err e) (result_or (cond b (Ok (values_in f)) (Err Dimensions)) (Err u)) → (b ≡ false) × (e ≡ u)
-    refused true k = cc
-    refused false k = (refl, cc)
+pub range_refused : (x : Result Values Refusal) (e u : Refusal) → Err e ≡ result_or x (Err u) → (d : Refusal) × (x ≡ Err d) × (e ≡ u)
+range_refused (Ok o) e u h = (e, cc, cc)
+range_refused (Err d) e u h = (d, refl, cc)
 
-pub range_allowed : (f : Fields) (t : Values) (u : Refusal) (x : Result Values Refusal) → x ≡ opening_in f.subflows f.timed f.kind → Ok t ≡ result_or x (Err u) → (in_range f ≡ true) × (t ≡ values_in f)
-range_allowed f t u x i h = allowed (in_range f) (h ∙ ap (λ y. result_or y (Err u)) i)
-  where
-    allowed : (b : Bool) → ◌≡◌ {A = Result Values Refusal} (Ok t) (result_or (cond b (Ok (values_in f)) (Err Dimensions)) (Err u)) → (b ≡ true) × (t ≡ values_in f)
-    allowed true k = (refl, cc)
-    allowed false k = cc
+range_allowed : (x : Result Values Refusal) (o : Values) (u : Refusal) → Ok o ≡ result_or x (Err u) → x ≡ Ok o
+range_allowed (Ok p) o u h = sym h
+range_allowed (Err d) o u h = cc
+
+-- the values that it goes on with are those that were asked for
+pub range_asked : (x y : Result Values Refusal) (o : Values) (u : Refusal) → x ≡ y → Ok o ≡ result_or x (Err u) → y ≡ Ok o
+range_asked x y o u e h = sym e ∙ range_allowed x o u h
 
 -- rows that are added, likewise
 pub kept_refused : (x : Result Unit Refusal) (e u : Refusal) (rs : List Row) → Err e ≡ result_or x (Err u) → (None ≡ kept x rs) × (e ≡ u)
@@ -69,10 +73,11 @@ pub kept_added : (x : Result Unit Refusal) (v : Unit) (u : Refusal) (rs : List R
 kept_added (Ok w) v u rs h = refl
 kept_added (Err d) v u rs h = cc
 
-pub follows_same : (h : Links) (k : ℕ) (f : Fields) → follows h k f ≡ true → (k ≡ 0 → ⊥) → h.contents.opening ≡ values_in f
+pub follows_same : (h : Links) (k : ℕ) (f : Fields) (o : Values) → follows h k f ≡ true → (k ≡ 0 → ⊥) → asked f ≡ Ok o → h.contents.opening ≡ o
 unfolding follows
-follows_same h k f e z =
-    let a : h.contents.opening.subflows ≡ f.subflows = grind (arith, nat_tests) in
-    let b : h.contents.opening.timed ≡ f.timed = grind (arith, nat_tests) in
-    let d : h.contents.opening.kind ≡ f.kind = grind (arith, nat_tests) in
-    rw (← a, ← b, ← d)
+follows_same h k f o e z r =
+    let a : f.subflows ≡ h.contents.opening.subflows = grind (arith, nat_tests) in
+    let b : f.timed ≡ h.contents.opening.timed = grind (arith, nat_tests) in
+    let d : f.kind ≡ data_number h.contents.opening.data_type = grind (arith, nat_tests) in
+    let s : opening_in h.contents.opening.subflows h.contents.opening.timed (data_number h.contents.opening.data_type) ≡ Ok o = rw (← a, ← b, ← d) r in
+    opening_typed _ _ h.contents.opening.data_type o s

@@ -1,5 +1,5 @@
 pub mod Parts
-pub mod Steps
+pub mod Codings
 pub mod Whole
 pub mod Room
 pub mod Holds

@@ -1,11 +1,11 @@
 -- Sizes, one by one.
 -- Assumes nothing.
-use Rattle.std.proofs.Common.{◌≡◌, ℕ, zero, suc, ◌+◌, ◌-◌, ◌*◌, ◌<◌, ◌≤◌, min, Bool, true, false, cond, List, [], ◌∷◌, ◌++◌, length, get_or, sym, refl, ap, ◌∙◌, arith}
+use Rattle.std.proofs.Common.{◌≡◌, ℕ, zero, suc, ◌+◌, ◌-◌, ◌<◌, ◌≤◌, min, Bool, true, false, List, [], ◌∷◌, ◌++◌, length, sym, refl, ap, ◌∙◌, arith}
 use Rattle.std.proofs.lemmas.List.{append_assoc, append-nil, length-append, length_push}
-use Rattle.link_reading.specs.Layout.{sizes_in, width}
+use Rattle.link_reading.specs.Layout.{size_of, sizes_in, width}
 
 -- a size that stands in front of the others
-sizes_first : (w : Bool) (n x : ℕ) (xs ys : List ℕ) → length xs ≡ width 1 w → x ≡ cond w (get_or xs 0 0 * 256 + get_or xs 1 0) (get_or xs 0 0) → sizes_in w (suc n) (xs ++ ys) ≡ x ∷ sizes_in w n ys
+sizes_first : (w : Bool) (n x : ℕ) (xs ys : List ℕ) → length xs ≡ width 1 w → x ≡ size_of xs → sizes_in w (suc n) (xs ++ ys) ≡ x ∷ sizes_in w n ys
 unfolding sizes_in
 sizes_first true n x [] ys l e = absurd (omega arith)
 sizes_first true n x (a ∷ []) ys l e = absurd (omega arith)
@@ -38,7 +38,7 @@ pub sizes_room : (w : Bool) (n : ℕ) (ss whole was : List ℕ) → Turned w n s
 sizes_room w n ss whole was t p h = let m = more_left w (n - length ss) whole p t.left in omega (arith, m.1)
 
 pub sizes_turn : (w : Bool) (n x : ℕ) (whole xs ys ss out was : List ℕ) → Turned w n ss whole was → whole ≡ xs ++ ys → length xs ≡ min (width 1 w) (length whole) → 0 < length whole
-    → x ≡ cond w (get_or xs 0 0 * 256 + get_or xs 1 0) (get_or xs 0 0) → out ≡ ss ++ x ∷ [] → Turned w n out ys was
+    → x ≡ size_of xs → out ≡ ss ++ x ∷ [] → Turned w n out ys was
 sizes_turn w n x whole xs ys ss out was t e l p f g =
     let k = n - length ss in
     let m = more_left w k whole p t.left in

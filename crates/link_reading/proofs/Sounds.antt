@@ -1,31 +1,16 @@
--- Sound rows: their parts, and that they can be added one by one.
+-- Sound rows, and that they can be added one by one.
 -- Assumes nothing.
-use Rattle.std.proofs.Common.{◌≡◌, ℕ, zero, suc, ◌+◌, ◌≤◌, Bool, true, false, not, ◌&&◌, eqb, List, [], ◌∷◌, ◌++◌, length, take, drop, Some, sym, refl, ap, ◌∙◌, arith}
+use Rattle.std.proofs.Common.{◌≡◌, ℕ, ◌+◌, ◌≤◌, Bool, true, false, not, eqb, List, [], ◌∷◌, ◌++◌, length, take, drop, Some, sym, refl, ap, ◌∙◌, arith}
 use Rattle.std.proofs.lemmas.List.{append_assoc, append-nil, length-append, take-append-drop, drop-take, take-take}
 use Rattle.std.proofs.lemmas.Bool.{and_parts, and_from, eq-eqb, ne_eqb}
 use Rattle.std.proofs.lemmas.Bool.Decides.{nat_tests}
-use Rattle.sets.specs.Rows.{Row, fits, fresh, sound, free}
+use Rattle.sets.specs.Rows.{Row, fits, fresh, sound}
 use Rattle.sets.proofs.Fitting.{fit, ipti_small}
 use Rattle.sets.proofs.Adds.{admitted_none}
+use Rattle.sets.proofs.Parts.{two}
 use Rattle.link_reading.specs.Adding.{add_all}
 use Rattle.link_reading.proofs.Backs.{Good, Timely, Halved}
 use Rattle.link_reading.proofs.Holds.{all_more}
-
-pub record Two (n : ℕ) (ti : Bool) (r : Row) (rs : List Row) : Type 0 where
-  pub fits : fits n ti r ≡ true
-  pub fresh : fresh r.rfci rs ≡ true
-  pub sound : sound n ti rs ≡ true
-
-pub two : (n : ℕ) (ti : Bool) (r : Row) (rs : List Row) → sound n ti (r ∷ rs) ≡ true → Two n ti r rs
-unfolding sound
-two n ti r rs h =
-    let p = and_parts (fits n ti r) (fresh r.rfci rs && sound n ti rs) h in
-    let q = and_parts (fresh r.rfci rs) (sound n ti rs) p.1 in
-    record { fits = p.0; fresh = q.0; sound = q.1 }
-
-pub two_back : (n : ℕ) (ti : Bool) (r : Row) (rs : List Row) → Two n ti r rs → sound n ti (r ∷ rs) ≡ true
-unfolding sound
-two_back n ti r rs t = and_from (fits n ti r) (fresh r.rfci rs && sound n ti rs) t.fits (and_from (fresh r.rfci rs) (sound n ti rs) t.fresh t.sound)
 
 pub good : (n : ℕ) (ti : Bool) (rs : List Row) → sound n ti rs ≡ true → Good n rs
 good n ti [] h = tt
@@ -47,43 +32,6 @@ untimed n (r ∷ rs) h =
     let t = two n false r rs h in
     let z : r.ipti ≤ 0 = (fit n false r t.fits).ipti in
     (omega arith, untimed n rs t.sound)
-
-fresh-take : (m k : ℕ) (rs : List Row) → fresh m rs ≡ true → fresh m (take k rs) ≡ true
-unfolding fresh
-fresh-take m zero rs h = refl
-fresh-take m (suc k) [] h = refl
-fresh-take m (suc k) (r ∷ rs) h =
-    let p = and_parts (not (eqb r.rfci m)) (fresh m rs) h in
-    and_from (not (eqb r.rfci m)) (fresh m (take k rs)) p.0 (fresh-take m k rs p.1)
-
-sound_none : (n : ℕ) (ti : Bool) → sound n ti [] ≡ true
-unfolding sound
-sound_none n ti = refl
-
-pub sound-take : (n : ℕ) (ti : Bool) (k : ℕ) (rs : List Row) → sound n ti rs ≡ true → sound n ti (take k rs) ≡ true
-sound-take n ti zero rs h = sound_none n ti
-sound-take n ti (suc k) [] h = sound_none n ti
-sound-take n ti (suc k) (r ∷ rs) h =
-    let t = two n ti r rs h in
-    two_back n ti r (take k rs) (record { fits = t.fits; fresh = fresh-take r.rfci k rs t.fresh; sound = sound-take n ti k rs t.sound })
-
-pub sound-drop : (n : ℕ) (ti : Bool) (k : ℕ) (rs : List Row) → sound n ti rs ≡ true → sound n ti (drop k rs) ≡ true
-sound-drop n ti zero rs h = h
-sound-drop n ti (suc k) [] h = h
-sound-drop n ti (suc k) (r ∷ rs) h = sound-drop n ti k rs (two n ti r rs h).sound
-
-pub free-take : (k : ℕ) (rs : List Row) → free rs ≡ true → free (take k rs) ≡ true
-unfolding free
-free-take zero rs h = refl
-free-take (suc k) [] h = refl
-free-take (suc k) (r ∷ rs) h =
-    let p = and_parts r.allowed (free rs) h in and_from r.allowed (free (take k rs)) p.0 (free-take k rs p.1)
-
-pub free-drop : (k : ℕ) (rs : List Row) → free rs ≡ true → free (drop k rs) ≡ true
-unfolding free
-free-drop zero rs h = h
-free-drop (suc k) [] h = h
-free-drop (suc k) (r ∷ rs) h = free-drop k rs (and_parts r.allowed (free rs) h).1
 
 -- a row among sound rows
 fresh_among : (m : ℕ) (xs : List Row) (r : Row) (rs : List Row) → fresh m (xs ++ r ∷ rs) ≡ true → r.rfci ≡ m → ⊥

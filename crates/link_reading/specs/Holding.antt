@@ -1,9 +1,10 @@
 -- What one more link does to those held.
-use Rattle.std.specs.Prelude.{ℕ, ◌+◌, ◌%◌, Bool, cond, not, ◌&&◌, ◌||◌, List, [], Some, None, Ok, Err, Option, Result, ◌==◌, nat_le, nat_lt}
+use Rattle.std.specs.Prelude.{ℕ, ◌+◌, ◌%◌, Bool, cond, not, ◌&&◌, ◌||◌, List, [], Some, None, Ok, Err, Option, Result, ◌==◌, nat_lt}
 use Rattle.frames.specs.declared.refusal.Refusal.{Refusal}
 use Rattle.frames.specs.declared.refusal.Refusal.TheVariants.{TooShort, UnexpectedValue, ModeVersion}
 use Rattle.sets.specs.Rows.{Row}
-use Rattle.sets.specs.Openings.{Values}
+use Rattle.frames.specs.DataTypes.{data_number}
+use Rattle.sets.specs.Openings.{Values, opening_in}
 use Rattle.link_reading.specs.declared.fields.Fields.{Fields}
 use Rattle.link_reading.specs.Links.{Links}
 use Rattle.link_reading.specs.Layout.{fields_of, rows_of}
@@ -12,15 +13,11 @@ use Rattle.link_reading.specs.Adding.{add_all}
 abbrev pub same : Bool → Bool → Bool
 same a b = cond a b (not b)
 
--- what a link says of the whole set
-abbrev pub values_in : Fields → Values
-values_in f = record { subflows = f.subflows; timed = f.timed; kind = f.kind }
-
 -- a link says what link 0 said: N, TI, versions and data PDU type
 abbrev pub agrees : Links → Fields → Bool
 agrees h f =
     (f.subflows == h.contents.opening.subflows && same f.timed h.contents.opening.timed)
-    && (f.versions == h.versions && f.kind == h.contents.opening.kind)
+    && (f.versions == h.versions && f.kind == data_number h.contents.opening.data_type)
 
 -- link 0 begins a new set; another is the next one, unless the last is held, and agrees with link 0. None announces a fifth
 unfoldable pub follows : Links → ℕ → Fields → Bool
@@ -30,15 +27,11 @@ follows h k f = not (k == 3 && f.chain) && (k == 0 || ((k == h.links && not h.co
 abbrev pub base : Links → ℕ → List Row
 base h k = cond (k == 0) [] h.contents.combinations
 
--- what is held after link k with these fields, if its rows may be added
-abbrev pub held_with : ℕ → Fields → Option (List Row) → Result Links Refusal
-held_with k f None = Err UnexpectedValue
-held_with k f (Some rs) =
-    Ok (record { contents = record { opening = values_in f; combinations = rs }; versions = f.versions; links = k + 1; complete = not f.chain })
-
--- N is 1 to 7, the data PDU type 0 or 1
-abbrev pub in_range : Fields → Bool
-in_range f = nat_le 1 f.subflows && (nat_le f.subflows 7 && nat_le f.kind 1)
+-- what is held after link k with these fields and opening values, if its rows may be added
+abbrev pub held_with : ℕ → Fields → Values → Option (List Row) → Result Links Refusal
+held_with k f o None = Err UnexpectedValue
+held_with k f o (Some rs) =
+    Ok (record { contents = record { opening = o; combinations = rs }; versions = f.versions; links = k + 1; complete = not f.chain })
 
 -- what the payload alone decides, in this order: 8 short of its own fields, 20 more than 32 octets over them, 49 version 1 not listed
 abbrev pub examined_by : Option Fields → Result Fields Refusal
@@ -48,10 +41,14 @@ examined_by (Some f) = cond (nat_lt 32 f.over) (Err UnexpectedValue) (cond (f.ve
 unfoldable pub examined : List ℕ → Result Fields Refusal
 examined os = examined_by (fields_of os)
 
--- then 20 against a rule
+-- a link that may come, its rows added
+abbrev pub ruled_with : Links → ℕ → List ℕ → Fields → Result Values Refusal → Result Links Refusal
+ruled_with h k os f (Err e) = Err UnexpectedValue
+ruled_with h k os f (Ok o) = cond (follows h k f) (held_with k f o (add_all f.subflows f.timed (base h k) (rows_of f os))) (Err UnexpectedValue)
+
+-- then 20 against a rule: first of all that no set is opened with such values
 unfoldable pub ruled : Links → ℕ → List ℕ → Fields → Result Links Refusal
-ruled h k os f =
-    cond (in_range f && follows h k f) (held_with k f (add_all f.subflows f.timed (base h k) (rows_of f os))) (Err UnexpectedValue)
+ruled h k os f = ruled_with h k os f (opening_in f.subflows f.timed f.kind)
 
 abbrev pub judged_by : Links → ℕ → List ℕ → Result Fields Refusal → Result Links Refusal
 judged_by h k os (Ok f) = ruled h k os f

@@ -1,6 +1,7 @@
 -- What the octets of a link say.
-use Rattle.std.specs.Prelude.{ℕ, zero, suc, ◌+◌, ◌-◌, ◌*◌, ◌/◌, ◌%◌, Bool, true, cond, List, [], ◌∷◌, length, drop, Some, None, Option, ◌==◌, nat_lt, slice_index}
+use Rattle.std.specs.Prelude.{ℕ, zero, suc, ◌+◌, ◌-◌, ◌*◌, ◌/◌, ◌%◌, Bool, true, cond, List, [], ◌∷◌, length, take, drop, Some, None, Option, ◌==◌, nat_lt, slice_index}
 use Rattle.sets.specs.Rows.{Row}
+use Rattle.link_reading.specs.declared.coded.Coded.{Coded}
 use Rattle.link_reading.specs.declared.fields.Extent.{Extent}
 use Rattle.link_reading.specs.declared.fields.Fields.{Fields}
 
@@ -29,6 +30,27 @@ extent (suc f) n (o ∷ os) =
     (cond (is_last o) (Some (record { count = 1; octets = 1 + width n (is_wide o) }))
     (onward 1 (1 + width n (is_wide o)) (extent f n (drop (width n (is_wide o)) os))))
 
+-- a combination in octets: the first, and those of its sizes
+pub record Coding : Type 0 where
+  pub head : ℕ
+  pub sizes : List ℕ
+
+-- the same by what is read of it
+abbrev pub coding : Coded → Coding
+coding c = record { head = c.head; sizes = c.sizes.now }
+
+-- the combinations that octets begin with, up to the last one, each in its octets; none that is short
+unfoldable pub coded : ℕ → ℕ → List ℕ → List Coding
+coded zero n os = []
+coded (suc f) n [] = []
+coded (suc f) n (o ∷ os) =
+    cond (nat_lt (length os) (width n (is_wide o))) []
+    (record { head = o; sizes = take (width n (is_wide o)) os } ∷ cond (is_last o) [] (coded f n (drop (width n (is_wide o)) os)))
+
+-- the size in the octet or the two octets that it takes
+abbrev pub size_of : List ℕ → ℕ
+size_of os = cond (length os == 2) (slice_index os 0 * 256 + slice_index os 1) (slice_index os 0)
+
 -- n sizes
 unfoldable pub sizes_in : Bool → ℕ → List ℕ → List ℕ
 sizes_in w zero os = []
@@ -47,11 +69,6 @@ row_in n os p = record { rfci = slice_index os 0 % 64; ipti = p; sizes = sizes_i
 unfoldable pub rows_in : ℕ → ℕ → List ℕ → List ℕ → List Row
 rows_in zero n os hs = []
 rows_in (suc c) n os hs = row_in n os (slice_index hs 0) ∷ rows_in c n (drop (1 + width n (is_wide (slice_index os 0))) os) (drop 1 hs)
-
--- the octets of so many combinations
-unfoldable pub taken : ℕ → ℕ → List ℕ → ℕ
-taken zero n os = 0
-taken (suc c) n os = 1 + width n (is_wide (slice_index os 0)) + taken c n (drop (1 + width n (is_wide (slice_index os 0))) os)
 
 abbrev pub subflows_of : ℕ → ℕ
 subflows_of o = o / 2 % 8

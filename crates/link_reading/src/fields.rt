@@ -1,4 +1,4 @@
-// What the payload of a link says, in plain numbers.
+// What the payload of a link says, in plain numbers: counts and places as the definitions have them, and the octets are cut by them where they are read.
 
 // How many combinations a payload begins with, and the octets that they take.
 #[derive(Clone, Copy)]

@@ -1,5 +1,5 @@
 // Half octets, the high one of an octet before the low one.
-ghost use Rattle.std.specs.Prelude.{◌≡◌, ℕ, List, [], ◌++◌, drop, slice_index, if◌then◌else◌};
+ghost use Rattle.std.specs.Prelude.{◌≡◌, ℕ, List, [], ◌++◌, if◌then◌else◌};
 ghost use Rattle.std.specs.Option.{option_to_list};
 ghost use Rattle.link_reading.specs.Layout.{halves, halves_if};
 
@@ -23,31 +23,28 @@ impl<'a> Halves<'a> {
     pub(crate) fn of(octets: &'a [u8], some: bool) -> Halves<'a>
         ensures { result ≡ halves_if some octets.now }
     {
-        if some {
-            Halves { low: None, octets }
-        } else {
-            Halves {
-                low: None,
-                octets: &[],
-            }
-        }
+        let octets: &[u8] = if some { octets } else { &[] };
+        Halves { low: None, octets }
     }
+}
 
-    // The next one; 0 where none is left.
+impl<'a> Iterator for Halves<'a> {
+    ghost use Rattle.std.specs.Iterator.{YieldsFirst, item_count};
+
+    type Item = u8;
+
+    ghost next_gives = { YieldsFirst (λ halves. halves) };
+
+    ghost remaining = { item_count (λ halves. halves) };
+
     #[tactic(auto, unfolding(crate::specs::Layout::halves))]
-    pub(crate) fn next(&mut self) -> u8
-        ensures half { result ≡ slice_index self.old 0 }
-        ensures rest { self.new ≡ drop 1 self.old }
-    {
-        if let Some(low) = self.low {
-            self.low = None;
-            return low;
+    fn next(&mut self) -> Option<u8> {
+        if let Some(low) = self.low.take() {
+            return Some(low);
         }
-        let [octet, rest @ ..] = self.octets else {
-            return 0;
-        };
+        let (octet, rest) = self.octets.split_first()?;
         self.octets = rest;
         self.low = Some(*octet % 16);
-        *octet / 16
+        Some(*octet / 16)
     }
 }

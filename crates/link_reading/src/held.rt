@@ -1,6 +1,6 @@
 // The links of a set that were read, up to the last of them.
-ghost use Rattle.std.specs.Prelude.{◌≡◌, ◌≤◌, true, length, if◌then◌else◌};
-ghost use Rattle.sets.specs.Rows.{sound, free};
+ghost use Rattle.std.specs.Prelude.{◌≡◌, ◌≤◌, length, if◌then◌else◌};
+ghost use Rattle.sets.specs.Contents.{SoundDraft};
 
 use sets::combination::Combination;
 use sets::draft::Draft;
@@ -40,9 +40,7 @@ impl Held {
     pub fn rows(&self) -> &[Combination]
         ensures rows { result.now ≡ self.now.contents.combinations }
         ensures some { (if self.now.complete then 1 else 0) ≤ length self.now.contents.combinations }
-        ensures room { length self.now.contents.combinations ≤ 32 }
-        ensures sound { sound self.now.contents.opening.subflows self.now.contents.opening.timed self.now.contents.combinations ≡ true }
-        ensures free { free self.now.contents.combinations ≡ true }
+        ensures sound { SoundDraft self.now.contents }
     {
         self.draft.rows()
     }

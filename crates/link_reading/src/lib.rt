@@ -3,6 +3,7 @@
 #![tactic(auto)]
 
 mod admitting;
+mod coded;
 pub mod fields;
 mod halves;
 pub mod held;

@@ -1,48 +1,29 @@
 // The fields of a link, read from its payload.
 ghost use Rattle.std.specs.Prelude.{◌≡◌, ℕ, ◌+◌, ◌*◌, ◌/◌, ◌<◌, ◌≤◌, true, false, [], ◌∷◌, ◌++◌, length, take, drop, IfSome, if◌then◌else◌, slice_index};
-ghost use Rattle.link_reading.specs.Layout.{is_last, is_wide, width, extent, sizes_in, halves, row_in, fields_of, subflows_of, timed_of, chain_of, ipti_octets};
+ghost use Rattle.link_reading.specs.Layout.{is_last, is_wide, width, extent, size_of, sizes_in, halves, row_in, fields_of, subflows_of, timed_of, chain_of, ipti_octets};
 ghost use Rattle.link_reading.specs.Holding.{examined};
 
+use super::coded::{Combinations, is_last, width_of};
 use super::fields::{Extent, Fields};
+use frames::extent::MOST_SPARE;
 use frames::refusal::Refusal;
 use frames::row::Row;
 use sets::limits::MOST_SUBFLOWS;
-
-fn is_last(octet: u8) -> bool
-    ensures { result ≡ is_last octet }
-{
-    octet / 128 % 2 == 1
-}
-
-pub(crate) fn has_wide(octet: u8) -> bool
-    ensures { result ≡ is_wide octet }
-{
-    octet / 64 % 2 == 1
-}
-
-pub(crate) fn width_of(subflows: u8, wide: bool) -> usize
-    ensures { result ≡ width subflows wide }
-{
-    if wide {
-        subflows as usize * 2
-    } else {
-        subflows as usize
-    }
-}
 
 // How far the combinations go that the octets begin with.
 fn measure(octets: &[u8], subflows: u8) -> Option<Extent>
     ensures is { result ≡ extent (length octets.now) subflows octets.now }
     ensures within { IfSome result (λ e. (e.count ≤ e.octets) × (e.octets ≤ length octets.now)) }
 {
-    let mut rest = octets;
-    let mut count = 0;
-    while let [head, after @ ..] = rest {
-        rest = after.get(width_of(subflows, has_wide(*head))..)?;
-        count += 1;
-        if is_last(*head) {
-            let octets = octets.len() - rest.len();
-            return Some(Extent { count, octets });
+    let mut extent = Extent {
+        count: 0,
+        octets: 0,
+    };
+    for combination in Combinations::of(octets, subflows) {
+        extent.count += 1;
+        extent.octets += 1 + combination.sizes.len();
+        if is_last(combination.head) {
+            return Some(extent);
         }
     }
     None
@@ -81,17 +62,16 @@ fn read_fields(payload: &[u8]) -> Option<Fields>
     let timed = is_timed(*first);
     let extent = measure(rest, subflows)?;
     let after = &rest[extent.octets..];
-    // a slice pattern has no `?`
-    let [high, low, kind, over @ ..] = after.get(ipti_octets(timed, extent.count)..)? else {
-        return None;
-    };
+    let ([high, low, kind], over) = after
+        .get(ipti_octets(timed, extent.count)..)?
+        .split_first_chunk::<3>()?;
     Some(Fields {
         subflows,
         timed,
         chain: is_chain(*first),
         count: extent.count,
         place: 1 + extent.octets,
-        versions: *high as u16 * 256 + *low as u16,
+        versions: u16::from_be_bytes([*high, *low]),
         kind: *kind / 16,
         over: over.len(),
     })
@@ -103,7 +83,7 @@ pub(crate) fn examine(payload: &[u8]) -> Result<Fields, Refusal>
     ensures { result ≡ examined payload.now }
 {
     let fields = read_fields(payload).ok_or(Refusal::TooShort)?;
-    if fields.over > 32 {
+    if fields.over > MOST_SPARE {
         return Err(Refusal::UnexpectedValue);
     }
     if fields.versions % 2 == 0 {
@@ -113,14 +93,13 @@ pub(crate) fn examine(payload: &[u8]) -> Result<Fields, Refusal>
 }
 
 // A size, in the octet or the two octets that it takes.
-fn size_in(octets: &[u8], wide: bool) -> u16
-    requires { length octets.now ≡ width 1 wide }
-    ensures { result ≡ (if wide then slice_index octets.now 0 * 256 + slice_index octets.now 1 else slice_index octets.now 0) }
+fn size_in(octets: &[u8]) -> u16
+    ensures { result ≡ size_of octets.now }
 {
-    if wide {
-        octets[0] as u16 * 256 + octets[1] as u16
-    } else {
-        octets[0] as u16
+    match octets {
+        [high, low] => u16::from_be_bytes([*high, *low]),
+        [octet, ..] => *octet as u16,
+        [] => 0,
     }
 }
 
@@ -132,7 +111,7 @@ pub(crate) fn read_sizes(octets: &[u8], wide: bool, subflows: u8) -> Row<u16, MO
 {
     let mut sizes = Row::new();
     for size in octets.chunks(width_of(1, wide)) {
-        sizes.push(size_in(size, wide)).unwrap();
+        sizes.push(size_in(size)).unwrap();
     }
     sizes
 }

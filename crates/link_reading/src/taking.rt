@@ -61,7 +61,7 @@ impl Held {
         }
     }
 
-    // A link whose payload is sound in itself is held too, or it is against a rule.
+    // A link whose payload is sound in itself is held too, or it is against a rule. Its number is a plain one here, as the rules compare it.
     fn extend(&mut self, number: u8, payload: &[u8], fields: Fields) -> Result<(), Refusal>
         requires read { Ok fields ≡ examined payload.now }
         requires number { number ≤ 3 }
@@ -87,15 +87,15 @@ impl Held {
 
     // Link `number` with this payload is held too, or it is refused and what is held stays.
     pub fn read(&mut self, number: Number, payload: &[u8]) -> Result<(), Refusal>
-        ensures answer { result ≡ answer (judged self.old number.value payload.now) }
-        ensures held { self.new ≡ after self.old (judged self.old number.value payload.now) }
+        ensures answer { result ≡ answer (judged self.old number payload.now) }
+        ensures held { self.new ≡ after self.old (judged self.old number payload.now) }
     {
         let fields = examine(payload)?;
-        self.extend(number.value, payload, fields)
+        self.extend(number.value(), payload, fields)
     }
 
     // The set that the links make goes into `place` once the last is held; before that `place` stays as it was.
-    // The place is lent, as where a draft is closed: a form asked for, in which no set moves. The answer tells whether it was filled, which is no refusal.
+    // The place is lent, as where a draft is closed, so that no set moves in the answer: that tells whether the place was filled, which is no refusal.
     pub fn finish(&self, place: &mut Option<Set>) -> bool
         ensures answer { result ≡ self.now.complete }
         ensures place { place.new ≡ (if self.now.complete then Some self.now.contents else place.old) }
@@ -103,6 +103,6 @@ impl Held {
         if !self.complete {
             return false;
         }
-        self.draft.copied().close(place).is_ok()
+        self.draft.close_copy(place).is_ok()
     }
 }

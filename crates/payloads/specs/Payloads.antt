@@ -3,7 +3,6 @@ use Rattle.std.specs.Prelude.{ℕ, ◌+◌, ◌-◌, ◌/◌, ◌%◌, ◌^◌, 
 use Rattle.std.specs.List.{range_with_len}
 use Rattle.frames.specs.declared.refusal.Refusal.{Refusal}
 use Rattle.frames.specs.declared.refusal.Refusal.TheVariants.{ReservedValue}
-use Rattle.frames.specs.declared.distance.Distance.{Distance}
 use Rattle.frames.specs.Distances.{distance_of}
 use Rattle.frames.specs.Extent.{octets_for}
 use Rattle.frames.specs.Values.{shift_of}
@@ -38,13 +37,10 @@ rate_in version checksum payload = opened version checksum payload (marks_in pay
 abbrev pub alignment_in : (version checksum : ℕ) → List ℕ → Result ℕ Refusal
 alignment_in version checksum payload = opened version checksum payload (within 1 payload (shift_of (slice_index payload 0)))
 
-abbrev pub as_event : Result ErrorEvent Refusal → Result (Distance × ℕ) Refusal
-as_event (Ok e) = Ok (e.distance, e.cause.value)
-as_event (Err e) = Err e
-
 -- the distance is in the two high bits, of which 3 is reserved, and the cause in the six low ones
-abbrev pub event_of : ℕ → Result (Distance × ℕ) Refusal
-event_of octet = cond (nat_lt 2 (octet / 64)) (Err ReservedValue) (Ok (distance_of (octet / 64), octet % 64))
+abbrev pub event_of : ℕ → Result ErrorEvent Refusal
+event_of octet =
+    cond (nat_lt 2 (octet / 64)) (Err ReservedValue) (Ok (record { distance = distance_of (octet / 64); cause = octet % 64 }))
 
-abbrev pub event_in : (version checksum : ℕ) → List ℕ → Result (Distance × ℕ) Refusal
+abbrev pub event_in : (version checksum : ℕ) → List ℕ → Result ErrorEvent Refusal
 event_in version checksum payload = opened version checksum payload (within 1 payload (event_of (slice_index payload 0)))

@@ -1,6 +1,5 @@
 // The payloads of answers, which have no checksum.
 ghost use Rattle.std.specs.Prelude.{◌≡◌};
-ghost use Rattle.frames.specs.Values.{as_cause};
 ghost use Rattle.payloads.specs.Payloads.{ack_in, nack_in};
 
 use crate::check::{check_extent, check_version, only_octet};
@@ -18,7 +17,7 @@ pub fn read_ack(answer: Answer<'_>) -> Result<(), Refusal>
 
 // A Nack names its cause.
 pub fn read_nack(answer: Answer<'_>) -> Result<Cause, Refusal>
-    ensures { as_cause result ≡ nack_in answer.entry.version answer.entry.payload.now }
+    ensures { result ≡ nack_in answer.entry.version answer.entry.payload.now }
 {
     check_version(answer.version)?;
     Cause::new(only_octet(answer.payload)? >> 2)

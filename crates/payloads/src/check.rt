@@ -1,8 +1,10 @@
 // What is checked before the fields of a payload are read.
+// (d): the definitions take version, checksum and payload, which decide: the rest of a frame does not, and the round trips speak of each.
 ghost use Rattle.std.specs.Prelude.{◌≡◌, ◌≤◌, length, Ok, OnOk, slice_index};
 ghost use Rattle.payloads.specs.Checks.{versioned, opened, within, summed};
 
 use checksum::payload_checksum;
+use frames::extent::MOST_SPARE;
 use frames::frame::{Question, UserData};
 use frames::refusal::Refusal;
 
@@ -27,7 +29,7 @@ pub fn check_question(question: Question<'_>) -> Result<(), Refusal>
     Ok(())
 }
 
-// The payload of a control frame has its fields, and at most 32 octets of spare extension after them.
+// The payload of a control frame has its fields, and after them no more octets of spare extension than may be.
 pub fn check_extent(payload: &[u8], fields: usize) -> Result<(), Refusal>
     ensures is { result ≡ within fields payload.now (Ok tt) }
     ensures there { OnOk result (fields ≤ length payload.now) }
@@ -35,7 +37,7 @@ pub fn check_extent(payload: &[u8], fields: usize) -> Result<(), Refusal>
     if payload.len() < fields {
         return Err(Refusal::TooShort);
     }
-    if payload.len() - fields > 32 {
+    if payload.len() - fields > MOST_SPARE {
         return Err(Refusal::UnexpectedValue);
     }
     Ok(())
@@ -45,9 +47,7 @@ pub fn check_extent(payload: &[u8], fields: usize) -> Result<(), Refusal>
 pub(crate) fn only_octet(payload: &[u8]) -> Result<u8, Refusal>
     ensures { result ≡ within 1 payload.now (Ok (slice_index payload.now 0)) }
 {
-    let [octet, extension @ ..] = payload else {
-        return Err(Refusal::TooShort);
-    };
+    let (octet, extension) = payload.split_first().ok_or(Refusal::TooShort)?;
     check_extent(extension, 0)?;
     Ok(*octet)
 }

@@ -12,6 +12,7 @@ pub(crate) fn read_marks(count: usize, octets: &[u8]) -> RateMask
     requires there { octets_for count ≤ length octets.now }
     ensures { result ≡ marks_at count octets.now }
 {
+    // (a): a library has no heap: an array for the most marks, cut at the count
     let bars = array::from_fn(|k| k < count && (octets[k / 8] >> (7 - k % 8)) % 2 == 1);
     RateMask::new(count, bars).unwrap()
 }

@@ -1,7 +1,6 @@
 // The payloads of questions other than initialisation.
 ghost use Rattle.std.specs.Prelude.{◌≡◌};
-ghost use Rattle.frames.specs.Values.{as_shift};
-ghost use Rattle.payloads.specs.Payloads.{marks_in, rate_in, alignment_in, as_event, event_in};
+ghost use Rattle.payloads.specs.Payloads.{marks_in, rate_in, alignment_in, event_in};
 
 use crate::check::{check_extent, check_question, only_octet};
 use crate::event::ErrorEvent;
@@ -25,9 +24,7 @@ pub fn read_rate(question: Question<'_>) -> Result<RateMask, Refusal>
 fn rate_fields(payload: &[u8]) -> Result<RateMask, Refusal>
     ensures { result ≡ marks_in payload.now }
 {
-    let [first, octets @ ..] = payload else {
-        return Err(Refusal::TooShort);
-    };
+    let (first, octets) = payload.split_first().ok_or(Refusal::TooShort)?;
     let count = (first % 64) as usize;
     check_extent(octets, octets_for(count))?;
     Ok(read_marks(count, octets))
@@ -35,7 +32,7 @@ fn rate_fields(payload: &[u8]) -> Result<RateMask, Refusal>
 
 // A time alignment question.
 pub fn read_alignment(question: Question<'_>) -> Result<Shift, Refusal>
-    ensures { as_shift result ≡ alignment_in question.entry.version question.entry.checksum question.entry.payload.now }
+    ensures { result ≡ alignment_in question.entry.version question.entry.checksum question.entry.payload.now }
 {
     check_question(question)?;
     Shift::try_from(only_octet(question.payload)?)
@@ -43,7 +40,7 @@ pub fn read_alignment(question: Question<'_>) -> Result<Shift, Refusal>
 
 // An error event.
 pub fn read_error_event(question: Question<'_>) -> Result<ErrorEvent, Refusal>
-    ensures { as_event result ≡ event_in question.entry.version question.entry.checksum question.entry.payload.now }
+    ensures { result ≡ event_in question.entry.version question.entry.checksum question.entry.payload.now }
 {
     check_question(question)?;
     let octet = only_octet(question.payload)?;

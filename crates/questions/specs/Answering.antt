@@ -1,11 +1,8 @@
--- The form of the answer to each kind of question, and what it leads to.
-use Rattle.std.specs.Prelude.{ℕ, cond, List, Some, None, Option, Result, ◌==◌}
-use Rattle.frames.specs.declared.refusal.Refusal.{Refusal}
+-- What an answer to each kind of question leads to.
+use Rattle.std.specs.Prelude.{ℕ, cond, Some, None, Option, Result, ◌==◌}
 use Rattle.reports.specs.declared.ending.Ending.TheVariants.{AlignmentNotSupported, AlignmentNotPossible}
-use Rattle.exchange.specs.declared.answer.AckNack.{AckNack}
 use Rattle.exchange.specs.declared.answer.Turn.{Turn}
 use Rattle.exchange.specs.declared.answer.Turn.TheVariants.{Onward, Again, Stop}
-use Rattle.exchange.specs.Answers.{told_by, cause_in}
 use Rattle.questions.specs.declared.answer.AlignmentAnswer.{AlignmentAnswer}
 use Rattle.questions.specs.declared.answer.AlignmentAnswer.TheVariants.{Aligned, NotSupported, NotPossible, Declined}
 
@@ -19,15 +16,16 @@ abbrev pub alignment_of : Option ℕ → AlignmentAnswer
 alignment_of None = Aligned
 alignment_of (Some c) = cond (c == 47) NotSupported (cond (c == 48) NotPossible (Declined c))
 
-abbrev pub alignment_in : AckNack → (version : ℕ) → List ℕ → Result AlignmentAnswer Refusal
-alignment_in sort version payload = told_by alignment_of (cause_in sort version payload)
-
 -- these two end the alignment at once
 abbrev pub alignment_leads : AlignmentAnswer → Turn
 alignment_leads Aligned = Onward
 alignment_leads NotSupported = Stop AlignmentNotSupported
 alignment_leads NotPossible = Stop AlignmentNotPossible
 alignment_leads (Declined c) = Again
+
+-- what a time alignment makes of a cause
+abbrev pub alignment_turns : Option ℕ → Turn
+alignment_turns cause = alignment_leads (alignment_of cause)
 
 abbrev pub alignment_cause : AlignmentAnswer → Option ℕ
 alignment_cause Aligned = None

@@ -1,18 +1,17 @@
 // An alignment question: by how much the other end is to send later or earlier.
 ghost use Rattle.std.specs.Prelude.{◌≡◌};
 ghost use Rattle.frames.specs.declared.procedure.Procedure.TheVariants.{TimeAlignment as Asking};
-ghost use Rattle.frames.specs.Values.{octet_of};
 ghost use Rattle.reports.specs.declared.ending.Kind.TheVariants.{TimeAlignment};
 ghost use Rattle.reports.specs.declared.ending.Ending.TheVariants.{AlignmentFailure};
-ghost use Rattle.questions.specs.Answering.{alignment_in, alignment_leads, alignment_cause};
+ghost use Rattle.questions.specs.Answering.{alignment_turns};
 ghost use Rattle.questions.specs.Kinds.{alignment_asked, alignment_frames, alone};
 ghost use Rattle.std.proofs.Common.{rules};
 
 use crate::answer::AlignmentAnswer;
 use building::question::build_alignment;
-use exchange::answer::{AckNack, Turn, read_cause};
+use exchange::answer::Turn;
 use exchange::inquiry::Inquiry;
-use frames::frame::Answer;
+use frames::cause::Cause;
 use frames::number::Number;
 use frames::octets::Octets;
 use frames::procedure::Procedure;
@@ -29,19 +28,25 @@ pub struct AlignmentQuestion {
 
 impl Model for AlignmentQuestion {
     ghost use Rattle.std.specs.Prelude.{ℕ};
-    ghost use Rattle.frames.specs.Values.{octet_of};
 
     ghost Value = { ℕ };
 
-    ghost view = { λ q. octet_of q.shift };
+    ghost view = { λ q. q.shift };
 }
 
 impl AlignmentQuestion {
     pub fn new(shift: Shift) -> AlignmentQuestion
-        ensures { result ≡ octet_of shift }
+        ensures { result ≡ shift }
     {
         AlignmentQuestion { shift }
     }
+}
+
+// What the cause of an answer leads to.
+fn turn_by(cause: Option<Cause>) -> Turn
+    ensures { result ≡ alignment_turns cause }
+{
+    AlignmentAnswer::from(cause.map(|cause| cause.value())).turn()
 }
 
 impl Inquiry for AlignmentQuestion {
@@ -52,8 +57,6 @@ impl Inquiry for AlignmentQuestion {
     const UNANSWERED: Ending = Ending::AlignmentFailure;
 
     const DECLINED: Ending = Ending::AlignmentFailure;
-
-    type Answer = AlignmentAnswer;
 
     ghost PROCEDURE = { Asking };
 
@@ -69,33 +72,19 @@ impl Inquiry for AlignmentQuestion {
 
     ghost follows = { alone };
 
-    ghost reads = { alignment_in };
-
-    ghost turns = { alignment_leads };
-
-    ghost causes = { alignment_cause };
+    ghost turns = { alignment_turns };
 
     ghost proper = { Prim.search rules };
 
-    ghost told = { Prim.search rules };
-
     fn frame(&self, number: u8) -> Octets {
-        build_alignment(Number { value: number % 4 }, self.shift)
+        build_alignment(Number::wrapped(number as u16), self.shift)
     }
 
     fn more(&self, number: u8) -> bool {
         false
     }
 
-    fn read(sort: AckNack, answer: Answer<'_>) -> Result<AlignmentAnswer, Refusal> {
-        Ok(AlignmentAnswer::from(read_cause(sort, answer)?))
-    }
-
-    fn turn(answer: AlignmentAnswer) -> Turn {
-        answer.turn()
-    }
-
-    fn cause(answer: AlignmentAnswer) -> Option<u8> {
-        answer.cause()
+    fn turn(answer: &Result<Option<Cause>, Refusal>) -> Turn {
+        answer.map_or(Turn::Again, |cause| turn_by(cause))
     }
 }

@@ -1,17 +1,20 @@
-// The form of the answer to each kind of question, and what it leads to.
+// What an answer to each kind of question leads to.
 ghost use Rattle.std.specs.Prelude.{◌≡◌};
+ghost use Rattle.exchange.specs.Asking.{leads};
 ghost use Rattle.questions.specs.Answering.{acceptance_leads, alignment_of, alignment_leads, alignment_cause};
 
 use exchange::answer::Turn;
+use frames::cause::Cause;
+use frames::refusal::Refusal;
 use reports::ending::Ending;
 
 // A set of combinations, or the marks of them, can only be accepted or not: the answer is the cause of a Nack, none for an Ack.
-pub(crate) fn accept(cause: Option<u8>) -> Turn
-    ensures { result ≡ acceptance_leads cause }
+pub(crate) fn accept(answer: &Result<Option<Cause>, Refusal>) -> Turn
+    ensures { result ≡ leads acceptance_leads answer.now }
 {
-    match cause {
-        None => Turn::Onward,
-        Some(_) => Turn::Again,
+    match answer {
+        Ok(None) => Turn::Onward,
+        _ => Turn::Again,
     }
 }
 
@@ -25,15 +28,18 @@ pub enum AlignmentAnswer {
     Declined(u8),
 }
 
+// Any octet may be asked about: a cause in a frame has six bits of it.
 impl From<Option<u8>> for AlignmentAnswer {
     fn from(cause: Option<u8>) -> AlignmentAnswer
         ensures { result ≡ alignment_of cause }
     {
         match cause {
             None => AlignmentAnswer::Aligned,
-            Some(47) => AlignmentAnswer::NotSupported,
-            Some(48) => AlignmentAnswer::NotPossible,
-            Some(other) => AlignmentAnswer::Declined(other),
+            Some(other) => match Cause::within(other) {
+                Some(Cause::ALIGNMENT_NOT_SUPPORTED) => AlignmentAnswer::NotSupported,
+                Some(Cause::ALIGNMENT_NOT_POSSIBLE) => AlignmentAnswer::NotPossible,
+                _ => AlignmentAnswer::Declined(other),
+            },
         }
     }
 }
@@ -56,8 +62,8 @@ impl AlignmentAnswer {
     {
         match self {
             AlignmentAnswer::Aligned => None,
-            AlignmentAnswer::NotSupported => Some(47),
-            AlignmentAnswer::NotPossible => Some(48),
+            AlignmentAnswer::NotSupported => Some(Cause::ALIGNMENT_NOT_SUPPORTED.value()),
+            AlignmentAnswer::NotPossible => Some(Cause::ALIGNMENT_NOT_POSSIBLE.value()),
             AlignmentAnswer::Declined(other) => Some(other),
         }
     }

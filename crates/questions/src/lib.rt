@@ -1,4 +1,4 @@
-// The questions of the radio end, and the form of the answer to each.
+// The questions of the radio end, and what an answer to each leads to.
 
 #![tactic(auto)]
 

@@ -4,16 +4,15 @@ ghost use Rattle.frames.specs.declared.procedure.Procedure.TheVariants.{Initiali
 ghost use Rattle.reports.specs.declared.ending.Kind.TheVariants.{Initialisation};
 ghost use Rattle.reports.specs.declared.ending.Ending.TheVariants.{NoAnswer, Rejected};
 ghost use Rattle.building.specs.Building.{question_frame};
-ghost use Rattle.exchange.specs.Answers.{cause_in};
 ghost use Rattle.questions.specs.Answering.{acceptance_leads};
 ghost use Rattle.questions.specs.Kinds.{links_asked, links_frames, links_follow, link_length, links_fit};
 ghost use Rattle.std.proofs.Common.{rules};
 
 use crate::answer::accept;
 use building::question::build_question;
-use exchange::answer::{AckNack, Turn, read_cause};
+use exchange::answer::Turn;
 use exchange::inquiry::Inquiry;
-use frames::frame::Answer;
+use frames::cause::Cause;
 use frames::number::Number;
 use frames::octets::{LONGEST, Octets};
 use frames::procedure::Procedure;
@@ -22,6 +21,9 @@ use link_building::building::{link_count, link_payload};
 use reports::ending::{Ending, Kind};
 use sets::closed::Set;
 use std::marker::Model;
+
+// The octets before the payload of a control frame.
+const HEADER: usize = 4;
 
 #[derive(Drop)]
 pub struct Links {
@@ -53,10 +55,7 @@ impl Links {
     fn length(&self, number: u8) -> usize
         ensures { result ≡ link_length number self.now }
     {
-        match link_payload(&self.set, number) {
-            Some(payload) => 4 + payload.as_slice().len(),
-            None => 4,
-        }
+        link_payload(&self.set, number).map_or(HEADER, |payload| HEADER + payload.as_slice().len())
     }
 
     // Whether every link fits a frame.
@@ -73,7 +72,7 @@ fn link_frame(number: u8, payload: &[u8]) -> Octets
     ensures { result ≡ question_frame 0 (number % 4) payload.now }
 {
     // a kind has a frame for every number, and a frame has two bits for its own
-    let number = Number { value: number % 4 };
+    let number = Number::wrapped(number as u16);
     build_question(Links::PROCEDURE, number, payload).unwrap()
 }
 
@@ -85,8 +84,6 @@ impl Inquiry for Links {
     const UNANSWERED: Ending = Ending::NoAnswer;
 
     const DECLINED: Ending = Ending::Rejected;
-
-    type Answer = Option<u8>;
 
     ghost PROCEDURE = { Asking };
 
@@ -102,36 +99,22 @@ impl Inquiry for Links {
 
     ghost follows = { links_follow };
 
-    ghost reads = { cause_in };
-
     ghost turns = { acceptance_leads };
-
-    ghost causes = { λ cause. cause };
 
     ghost proper = { Prim.search rules };
 
-    ghost told = { Prim.search rules };
-
     fn frame(&self, number: u8) -> Octets {
-        match link_payload(&self.set, number) {
-            Some(payload) => link_frame(number, payload.as_slice()),
-            None => link_frame(number, &[]),
-        }
+        link_payload(&self.set, number).map_or_else(
+            || link_frame(number, &[]),
+            |payload| link_frame(number, payload.as_slice()),
+        )
     }
 
     fn more(&self, number: u8) -> bool {
         number < 3 && number + 1 < link_count(&self.set)
     }
 
-    fn read(sort: AckNack, answer: Answer<'_>) -> Result<Option<u8>, Refusal> {
-        read_cause(sort, answer)
-    }
-
-    fn turn(answer: Option<u8>) -> Turn {
+    fn turn(answer: &Result<Option<Cause>, Refusal>) -> Turn {
         accept(answer)
-    }
-
-    fn cause(answer: Option<u8>) -> Option<u8> {
-        answer
     }
 }

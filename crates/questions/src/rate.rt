@@ -3,16 +3,15 @@ ghost use Rattle.std.specs.Prelude.{◌≡◌};
 ghost use Rattle.frames.specs.declared.procedure.Procedure.TheVariants.{RateControl as Asking};
 ghost use Rattle.reports.specs.declared.ending.Kind.TheVariants.{RateControl};
 ghost use Rattle.reports.specs.declared.ending.Ending.TheVariants.{RateFailure};
-ghost use Rattle.exchange.specs.Answers.{cause_in};
 ghost use Rattle.questions.specs.Answering.{acceptance_leads};
 ghost use Rattle.questions.specs.Kinds.{rate_asked, rate_frames, alone};
 ghost use Rattle.std.proofs.Common.{rules};
 
 use crate::answer::accept;
 use building::rate::build_rate;
-use exchange::answer::{AckNack, Turn, read_cause};
+use exchange::answer::Turn;
 use exchange::inquiry::Inquiry;
-use frames::frame::Answer;
+use frames::cause::Cause;
 use frames::mask::RateMask;
 use frames::number::Number;
 use frames::octets::Octets;
@@ -21,8 +20,8 @@ use frames::refusal::Refusal;
 use reports::ending::{Ending, Kind};
 use std::marker::Model;
 
-// Beside a time alignment it differs in its payload, in its endings and in the form of its answer, which is all that an impl of the trait says:
-// one struct for both would be a generic with the same members again.
+// Beside the other kinds it differs in its payload, in its endings and in what an answer leads to, which is all that an impl of the trait says:
+// one struct for them would be a generic with the same members again.
 #[derive(Drop)]
 pub struct RateQuestion {
     mask: RateMask,
@@ -53,8 +52,6 @@ impl Inquiry for RateQuestion {
 
     const DECLINED: Ending = Ending::RateFailure;
 
-    type Answer = Option<u8>;
-
     ghost PROCEDURE = { Asking };
 
     ghost KIND = { RateControl };
@@ -69,33 +66,19 @@ impl Inquiry for RateQuestion {
 
     ghost follows = { alone };
 
-    ghost reads = { cause_in };
-
     ghost turns = { acceptance_leads };
-
-    ghost causes = { λ cause. cause };
 
     ghost proper = { Prim.search rules };
 
-    ghost told = { Prim.search rules };
-
     fn frame(&self, number: u8) -> Octets {
-        build_rate(Number { value: number % 4 }, &self.mask)
+        build_rate(Number::wrapped(number as u16), &self.mask)
     }
 
     fn more(&self, number: u8) -> bool {
         false
     }
 
-    fn read(sort: AckNack, answer: Answer<'_>) -> Result<Option<u8>, Refusal> {
-        read_cause(sort, answer)
-    }
-
-    fn turn(answer: Option<u8>) -> Turn {
+    fn turn(answer: &Result<Option<Cause>, Refusal>) -> Turn {
         accept(answer)
-    }
-
-    fn cause(answer: Option<u8>) -> Option<u8> {
-        answer
     }
 }

@@ -1,5 +1,6 @@
 -- Ledgers worked by hand, and a run that there is.
 use Rattle.std.proofs.Common.{◌≡◌, ℕ, true, false, List, [], ◌∷◌, Some, None, Ok, refl, arith}
+use Rattle.frames.specs.declared.data_type.DataType.TheVariants.{Plain}
 use Rattle.sets.specs.Rows.{Row}
 use Rattle.sets.specs.Contents.{Contents}
 use Rattle.set_in_force.specs.Places.{places_from}
@@ -22,7 +23,7 @@ abbrev row : Row
 row = record { rfci = 3; ipti = 0; sizes = 10 ∷ 6 ∷ []; allowed = true }
 
 abbrev set : Contents
-set = record { opening = record { subflows = 2; timed = false; kind = 1 }; combinations = row ∷ [] }
+set = record { opening = record { subflows = 2; timed = false; data_type = Plain }; combinations = row ∷ [] }
 
 abbrev brought : ℕ → ℕ → List Happening
 brought rfci second = Brought (record { rfci = rfci; fqc = 0; gap = 0; place = 3; subflows = record { first = 0; bits = 10 } ∷ record { first = second; bits = 6 } ∷ [] }) ∷ []
@@ -68,7 +69,7 @@ abbrev settings : Settings
 settings = record { initialisation = limits; rate = limits; alignment = limits; numbering = Counted; keep_damaged = false; mark = 0 }
 
 abbrev with : (events : ℕ) → List (List ℕ) → On Radio (List (List ℕ))
-with events line = record { state = record { bearing = record { settings = settings; events = events; force = None }; links = None; rate = None; alignment = None; rates = 0; alignments = 0 }; line = line }
+with events line = record { state = record { bearing = record { settings = settings; events = events; force = None }; links = None; rate = record { running = None; next = 0 }; alignment = record { running = None; next = 0 } }; line = line }
 
 there_is : Run {L = List (List ℕ)} (λ l. l) (λ l n. true) (with 0 []) (tick [] ∷ report 5 (Ok tt) (HandedOver (error_frame 0 1 5) ∷ []) ∷ []) (with 1 (error_frame 0 1 5 ∷ []))
 unfolding limits

@@ -26,11 +26,11 @@ Alone (Some a) o x y = (o ≡ None) × (x ≡ None) × (y ≡ None)
 -- the numbers of questions stay below 4
 pub record Sound (r : Radio) : Type 0 where
   pub links : Asks r.links
-  pub rate : Asks r.rate
-  pub alignment : Asks r.alignment
-  pub rates : r.rates < 4
-  pub alignments : r.alignments < 4
-  pub alone : Alone r.links (standing r.bearing.force) r.rate r.alignment
+  pub rate : Asks r.rate.running
+  pub alignment : Asks r.alignment.running
+  pub rates : r.rate.next < 4
+  pub alignments : r.alignment.next < 4
+  pub alone : Alone r.links (standing r.bearing.force) r.rate.running r.alignment.running
 
 -- the set that is offered
 abbrev pub Offer : Option (Exchange Contents) → Option Contents → Type 0
@@ -47,8 +47,8 @@ pub record Goes (r : Radio) (ms : Kind → List Mark) (s : List Happening) (afte
   pub settings : r'.bearing.settings ≡ r.bearing.settings
   pub sound : Sound r'
   pub links : Move r.bearing.settings.initialisation.ticks r.bearing.settings.initialisation.repeats (watched r.links) (ms Initialisation) (watched r'.links)
-  pub rate : Move r.bearing.settings.rate.ticks r.bearing.settings.rate.repeats (watched r.rate) (ms RateControl) (watched r'.rate)
-  pub alignment : Move r.bearing.settings.alignment.ticks r.bearing.settings.alignment.repeats (watched r.alignment) (ms TimeAlignment) (watched r'.alignment)
+  pub rate : Move r.bearing.settings.rate.ticks r.bearing.settings.rate.repeats (watched r.rate.running) (ms RateControl) (watched r'.rate.running)
+  pub alignment : Move r.bearing.settings.alignment.ticks r.bearing.settings.alignment.repeats (watched r.alignment.running) (ms TimeAlignment) (watched r'.alignment.running)
   pub stored : (z : Sets) → Stored r z → Stored r' (after z)
   pub borne : Borne (standing r.bearing.force) (delivered_in s)
   pub few : length s ≤ 4
@@ -70,7 +70,7 @@ pub carried : {A : Type 0} (r : Radio) (f : Effect Bearing A) → Carries r.bear
 carried r f c h =
     record {
       settings = c.settings;
-      sound = record { links = h.links; rate = h.rate; alignment = h.alignment; rates = h.rates; alignments = h.alignments; alone = subst (λ o. Alone r.links o r.rate r.alignment) (sym c.set) h.alone };
+      sound = record { links = h.links; rate = h.rate; alignment = h.alignment; rates = h.rates; alignments = h.alignments; alone = subst (λ o. Alone r.links o r.rate.running r.alignment.running) (sym c.set) h.alone };
       links = rw (c.names Initialisation) stays;
       rate = rw (c.names RateControl) stays;
       alignment = rw (c.names TimeAlignment) stays;
@@ -89,7 +89,8 @@ pub record Part {Q A : Type 0} (limits : Limits) (k : Kind) (ms : Kind → List 
   pub plain : delivered_in x.says ≡ []
   pub few : length x.says ≤ 2
 
-pub on_rate : {A : Type 0} (r : Radio) (ms : Kind → List Mark) (x : Effect (Option (Exchange (List Bool))) A) (n : ℕ) → Part r.bearing.settings.rate RateControl ms r.rate x → n < 4 → Alone r.links (standing r.bearing.force) x.next r.alignment → Sound r → Goes r ms x.says (settled x.says) (record r { rate = x.next; rates = n })
+-- one for each of the two: they name two fields of one record
+pub on_rate : {A : Type 0} (r : Radio) (ms : Kind → List Mark) (x : Effect (Option (Exchange (List Bool))) A) (n : ℕ) → Part r.bearing.settings.rate RateControl ms r.rate.running x → n < 4 → Alone r.links (standing r.bearing.force) x.next r.alignment.running → Sound r → Goes r ms x.says (settled x.says) (record r { rate = record { running = x.next; next = n } })
 on_rate r ms x n p low alone h =
     record {
       settings = refl;
@@ -97,12 +98,12 @@ on_rate r ms x n p low alone h =
       links = rw (p.marks Initialisation) stays;
       rate = rw (p.marks RateControl) p.move;
       alignment = rw (p.marks TimeAlignment) stays;
-      stored = unsettled r (record r { rate = x.next; rates = n }) x.says refl (λ o e. e) p.undone;
+      stored = unsettled r (record r { rate = record { running = x.next; next = n } }) x.says refl (λ o e. e) p.undone;
       borne = none_borne (standing r.bearing.force) (delivered_in x.says) p.plain;
       few = omega (arith, p.few);
     }
 
-pub on_alignment : {A : Type 0} (r : Radio) (ms : Kind → List Mark) (x : Effect (Option (Exchange ℕ)) A) (n : ℕ) → Part r.bearing.settings.alignment TimeAlignment ms r.alignment x → n < 4 → Alone r.links (standing r.bearing.force) r.rate x.next → Sound r → Goes r ms x.says (settled x.says) (record r { alignment = x.next; alignments = n })
+pub on_alignment : {A : Type 0} (r : Radio) (ms : Kind → List Mark) (x : Effect (Option (Exchange ℕ)) A) (n : ℕ) → Part r.bearing.settings.alignment TimeAlignment ms r.alignment.running x → n < 4 → Alone r.links (standing r.bearing.force) r.rate.running x.next → Sound r → Goes r ms x.says (settled x.says) (record r { alignment = record { running = x.next; next = n } })
 on_alignment r ms x n p low alone h =
     record {
       settings = refl;
@@ -110,7 +111,7 @@ on_alignment r ms x n p low alone h =
       links = rw (p.marks Initialisation) stays;
       rate = rw (p.marks RateControl) stays;
       alignment = rw (p.marks TimeAlignment) p.move;
-      stored = unsettled r (record r { alignment = x.next; alignments = n }) x.says refl (λ o e. e) p.undone;
+      stored = unsettled r (record r { alignment = record { running = x.next; next = n } }) x.says refl (λ o e. e) p.undone;
       borne = none_borne (standing r.bearing.force) (delivered_in x.says) p.plain;
       few = omega (arith, p.few);
     }
@@ -125,6 +126,7 @@ still_none : {Q : Type 0} (x x' : Option (Exchange Q)) → Same x x' → x ≡ N
 still_none None x' s e = s
 still_none (Some a) x' s e = let z : ◌≡◌ {A = ℕ} 0 1 = cc in absurd (omega arith)
 
+-- one for each of the two, as above
 pub lone_rate : (l : Option (Exchange Contents)) (o : Option Contents) (x x' : Option (Exchange (List Bool))) (y : Option (Exchange ℕ)) → Same x x' → Alone l o x y → Alone l o x' y
 lone_rate None o x x' y s h = tt
 lone_rate (Some a) o x x' y s h = (h.0, still_none x x' s h.1, h.2)

@@ -6,8 +6,10 @@ use Rattle.frames.specs.declared.refusal.Refusal.TheVariants.{UnexpectedProcedur
 use Rattle.frames.specs.declared.procedure.Procedure.{Procedure}
 use Rattle.frames.specs.declared.procedure.Procedure.TheVariants.{RateControl, TimeAlignment, ErrorEvent}
 use Rattle.frames.specs.declared.procedure.Procedure.TheVariants.{Initialisation as Offering}
-use Rattle.frames.specs.declared.distance.Distance.{Distance}
+use Rattle.frames.specs.declared.frame.AckNack.TheVariants.{Ack, Nack}
+use Rattle.frames.specs.Contents.{Reply}
 use Rattle.frames.specs.Contents as Frames
+use Rattle.payloads.specs.declared.event.ErrorEvent.{ErrorEvent as AnEvent}
 use Rattle.payloads.specs.Payloads.{event_in}
 use Rattle.sets.specs.Contents.{Contents}
 use Rattle.reports.specs.declared.ending.Kind.{Kind}
@@ -17,18 +19,14 @@ use Rattle.reports.specs.declared.ending.Ending.TheVariants.{NoAnswer, Rejected,
 use Rattle.reports.specs.declared.happening.Happening.{Happening}
 use Rattle.reports.specs.Said.{delivered_in}
 use Rattle.reports.specs.Effects.{Effect}
-use Rattle.exchange.specs.declared.answer.AckNack.{AckNack}
-use Rattle.exchange.specs.declared.answer.AckNack.TheVariants.{Ack, Nack}
 use Rattle.exchange.specs.declared.exchange.Exchange.{Exchange}
 use Rattle.exchange.specs.declared.limits.Limits.{Limits}
-use Rattle.exchange.specs.Answers.{cause_in}
-use Rattle.exchange.specs.Asking.{leads}
 use Rattle.exchange.specs.Slots.{slot_heard}
 use Rattle.exchange.specs.Books.{same, done_in, named}
 use Rattle.exchange.proofs.Moves.{stays}
 use Rattle.exchange.proofs.Exchanging as Exchanging
 use Rattle.exchange.proofs.Exchanging.{Still, Same, slot_hearing}
-use Rattle.questions.specs.Answering.{acceptance_leads, alignment_in, alignment_leads}
+use Rattle.questions.specs.Answering.{acceptance_leads, alignment_turns}
 use Rattle.questions.specs.Kinds.{links_asked, links_frames, links_follow, rate_asked, rate_frames, alignment_asked, alignment_frames, alone}
 use Rattle.questions.proofs.Proper.{links_proper, rate_proper, alignment_proper}
 use Rattle.bearer.specs.Bearing.{Bearing, standing, in_force}
@@ -66,24 +64,20 @@ alone_after : (e : Exchange Contents) (x' : Option (Exchange Contents)) (s : Lis
 alone_after e None s b x y still h = tt
 alone_after e (Some w) s b x y still h = (ap (λ d. standing (cond d (Some (in_force e.question)) b.force)) (still Initialisation) ∙ h.0, h.1, h.2)
 
-module _ (takes : ℕ → Bool) (sort : AckNack) (version : ℕ) (payload : List ℕ) (number : ℕ) where
-  cause : Result (Option ℕ) Refusal
-  cause = cause_in sort version payload
-
+module _ (takes : ℕ → Bool) (a : Reply) where
   -- an answer to a link, by the exchange that runs
   hearing_links : (r : Radio) (o : Option (Exchange Contents)) → r.links ≡ o → Sound r
-      → Heeds r (let f = slot_heard links_frames Initialisation takes r.bearing.settings.initialisation links_follow Rejected (leads acceptance_leads (cause_in sort version payload)) (cause_in sort version payload) number o in record { next = record r { bearing = coming f.says o r.bearing; links = f.next }; says = f.says; answer = f.answer })
+      → Heeds r (let f = slot_heard links_frames Initialisation takes r.bearing.settings.initialisation links_follow Rejected acceptance_leads a o in record { next = record r { bearing = coming f.says o r.bearing; links = f.next }; says = f.says; answer = f.answer })
   hearing_links r None is h = subst (λ o. Goes r (λ k. []) [] (settled []) (record r { links = o })) is (unmoved r h)
   hearing_links r (Some e) is h =
       let l = r.bearing.settings.initialisation in
-      let c = cause_in sort version payload in
       let asks = subst Exchanging.Asks is h.links in
-      let g = slot_hearing Offering Initialisation links_asked links_frames links_follow NoAnswer Rejected acceptance_leads links_proper l takes c c number (Some e) asks in
-      let x = slot_heard links_frames Initialisation takes l links_follow Rejected (leads acceptance_leads c) c number (Some e) in
-      let alone = subst (λ o. Alone o (standing r.bearing.force) r.rate r.alignment) is h.alone in
+      let g = slot_hearing Offering Initialisation links_asked links_frames links_follow NoAnswer Rejected acceptance_leads links_proper l takes a (Some e) asks in
+      let x = slot_heard links_frames Initialisation takes l links_follow Rejected acceptance_leads a (Some e) in
+      let alone = subst (λ o. Alone o (standing r.bearing.force) r.rate.running r.alignment.running) is h.alone in
       record {
         settings = refl;
-        sound = record { links = g.asks; rate = h.rate; alignment = h.alignment; rates = h.rates; alignments = h.alignments; alone = alone_after e x.next x.says r.bearing r.rate r.alignment g.still alone };
+        sound = record { links = g.asks; rate = h.rate; alignment = h.alignment; rates = h.rates; alignments = h.alignments; alone = alone_after e x.next x.says r.bearing r.rate.running r.alignment.running g.still alone };
         links = rw (is, g.says Initialisation) g.move;
         rate = rw (g.says Rate) stays;
         alignment = rw (g.says Alignment) stays;
@@ -92,37 +86,34 @@ module _ (takes : ℕ → Bool) (sort : AckNack) (version : ℕ) (payload : List
         few = omega (arith, g.few);
       }
 
-  hearing_rate : (r : Radio) → Sound r → Heeds r (rate_heard takes sort version payload number r)
+  hearing_rate : (r : Radio) → Sound r → Heeds r (rate_heard takes a r)
   hearing_rate r h =
       let l = r.bearing.settings.rate in
-      let c = cause_in sort version payload in
-      let x = slot_heard rate_frames Rate takes l alone RateFailure (leads acceptance_leads c) c number r.rate in
-      let g = slot_hearing RateControl Rate rate_asked rate_frames alone RateFailure RateFailure acceptance_leads rate_proper l takes c c number r.rate h.rate in
-      on_rate r (λ k. named k x.says) x r.rates (part_of l Rate r.rate x refl g) h.rates (lone_rate r.links (standing r.bearing.force) r.rate x.next r.alignment g.steady h.alone) h
+      let x = slot_heard rate_frames Rate takes l alone RateFailure acceptance_leads a r.rate.running in
+      let g = slot_hearing RateControl Rate rate_asked rate_frames alone RateFailure RateFailure acceptance_leads rate_proper l takes a r.rate.running h.rate in
+      on_rate r (λ k. named k x.says) x r.rate.next (part_of l Rate r.rate.running x refl g) h.rates (lone_rate r.links (standing r.bearing.force) r.rate.running x.next r.alignment.running g.steady h.alone) h
 
-  hearing_alignment : (r : Radio) → Sound r → Heeds r (alignment_heard takes sort version payload number r)
+  hearing_alignment : (r : Radio) → Sound r → Heeds r (alignment_heard takes a r)
   hearing_alignment r h =
       let l = r.bearing.settings.alignment in
-      let a = alignment_in sort version payload in
-      let c = cause_in sort version payload in
-      let x = slot_heard alignment_frames Alignment takes l alone AlignmentFailure (leads alignment_leads a) c number r.alignment in
-      let g = slot_hearing TimeAlignment Alignment alignment_asked alignment_frames alone AlignmentFailure AlignmentFailure alignment_leads alignment_proper l takes a c number r.alignment h.alignment in
-      on_alignment r (λ k. named k x.says) x r.alignments (part_of l Alignment r.alignment x refl g) h.alignments (lone_alignment r.links (standing r.bearing.force) r.rate r.alignment x.next g.steady h.alone) h
+      let x = slot_heard alignment_frames Alignment takes l alone AlignmentFailure alignment_turns a r.alignment.running in
+      let g = slot_hearing TimeAlignment Alignment alignment_asked alignment_frames alone AlignmentFailure AlignmentFailure alignment_turns alignment_proper l takes a r.alignment.running h.alignment in
+      on_alignment r (λ k. named k x.says) x r.alignment.next (part_of l Alignment r.alignment.running x refl g) h.alignments (lone_alignment r.links (standing r.bearing.force) r.rate.running r.alignment.running x.next g.steady h.alone) h
 
-  hearing : (p : Procedure) (r : Radio) → Sound r → Heeds r (heard takes sort version payload number p r)
+  hearing : (p : Procedure) (r : Radio) → Sound r → Heeds r (heard takes a p r)
   hearing Offering r h = hearing_links r r.links refl h
   hearing RateControl r h = hearing_rate r h
   hearing TimeAlignment r h = hearing_alignment r h
   hearing ErrorEvent r h = unmoved r h
 
-  answering : (p : Procedure) (r : Radio) → Sound r → Heeds r (answered takes sort version payload number p r)
-  answering p r h =
-      cond_both (awaited p r) _ _ (λ (f : Effect Radio (Result Received Refusal)). Heeds r f)
-      (λ _. hearing p r h)
+  answering : (r : Radio) → Sound r → Heeds r (answered takes a r)
+  answering r h =
+      cond_both (awaited a.procedure r) _ _ (λ (f : Effect Radio (Result Received Refusal)). Heeds r f)
+      (λ _. hearing a.procedure r h)
       (λ _. objecting_to takes UnexpectedProcedure r h)
 
 module _ (takes : ℕ → Bool) where
-  questioning : (p : Procedure) (e : Result (Distance × ℕ) Refusal) (r : Radio) → Sound r → Heeds r (questioned takes p e r)
+  questioning : (p : Procedure) (e : Result AnEvent Refusal) (r : Radio) → Sound r → Heeds r (questioned takes p e r)
   questioning Offering e r h = objecting_to takes UnexpectedProcedure r h
   questioning RateControl e r h = objecting_to takes UnexpectedProcedure r h
   questioning TimeAlignment e r h = objecting_to takes UnexpectedProcedure r h
@@ -134,8 +125,10 @@ module _ (takes : ℕ → Bool) where
       let d : Data = record { header = record { data_type = type; number = n; fqc = fqc; rfci = rfci }; checksum = checksum; place = place; payload = payload } in
       carried r (got takes d r.bearing) (getting takes d r.bearing) h
   receiving (Ok (Frames.question n version procedure checksum place payload)) r h = questioning procedure (event_in version checksum payload) r h
-  receiving (Ok (Frames.ack n version procedure place payload)) r h = answering takes Ack version payload n procedure r h
-  receiving (Ok (Frames.nack n version procedure place payload)) r h = answering takes Nack version payload n procedure r h
+  receiving (Ok (Frames.ack n version procedure place payload)) r h =
+      answering takes (record { ack_nack = Ack; number = n; version = version; procedure = procedure; payload = payload }) r h
+  receiving (Ok (Frames.nack n version procedure place payload)) r h =
+      answering takes (record { ack_nack = Nack; number = n; version = version; procedure = procedure; payload = payload }) r h
 
   pub received-fits : (octets : List ℕ) (r : Radio) → Sound r → Heeds r (received takes octets r)
   received-fits octets r h = receiving (Frames.parsed octets) r h

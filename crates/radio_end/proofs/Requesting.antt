@@ -20,11 +20,11 @@ use Rattle.exchange.specs.declared.answer.Turn.{Turn}
 use Rattle.exchange.specs.declared.exchange.Exchange.{Exchange}
 use Rattle.exchange.specs.declared.limits.Limits.{Limits}
 use Rattle.exchange.specs.Asked.{Proper}
-use Rattle.exchange.specs.Slots.{slot_begun}
+use Rattle.exchange.specs.Slots.{slot_begun, number_after}
 use Rattle.exchange.specs.Books.{Mark, opened, announced, closed, asked, same, named, done_in}
 use Rattle.exchange.proofs.Moves.{watched, Move, stays, begins, closes}
 use Rattle.exchange.proofs.Exchanging.{only, silence, Asks, beginning}
-use Rattle.questions.specs.Answering.{acceptance_leads, alignment_leads}
+use Rattle.questions.specs.Answering.{acceptance_leads, alignment_turns}
 use Rattle.questions.specs.Kinds.{links_frames, links_fit, rate_asked, rate_frames, alignment_asked, alignment_frames, alone}
 use Rattle.questions.proofs.Proper.{rate_proper, alignment_proper}
 use Rattle.bearer.specs.Bearing.{Force, standing}
@@ -32,7 +32,7 @@ use Rattle.bearer.specs.Allowing.{allows_one}
 use Rattle.bearer.specs.Ledgers.{granted}
 use Rattle.bearer.proofs.Carrying.{none_borne}
 use Rattle.radio_end.specs.Radio.{Radio}
-use Rattle.radio_end.specs.Steps.{overtaken, number_after, marks_for, start_begun, started, rated_on, rated, aligned_by, aligned_on, aligned}
+use Rattle.radio_end.specs.Steps.{overtaken, marks_for, start_begun, started, rated_on, rated, aligned_by, aligned_on, aligned}
 use Rattle.radio_end.specs.Runs.{Call, start, rate, align}
 use Rattle.radio_end.specs.Ledger.{marks, after}
 use Rattle.radio_end.proofs.Going.{Alone, Sound, Goes, Part, unmoved, on_rate, on_alignment, lone}
@@ -69,15 +69,15 @@ saying_start c (Some x) (Some y) = record { links = refl; rate = refl; alignment
 
 beginning_links : (takes : ℕ → Bool) (c : Contents) (r : Radio) → r.links ≡ None → Sound r → Fits r (start c) (start_begun takes c r)
 beginning_links takes c r idle h =
-    let g = saying_start c r.rate r.alignment in
+    let g = saying_start c r.rate.running r.alignment.running in
     record {
       settings = refl;
       sound = record { links = omega arith; rate = tt; alignment = tt; rates = h.rates; alignments = h.alignments; alone = (refl, refl, refl) };
       links = rw (idle, g.links) (begins refl refl);
-      rate = rw g.rate (ends r.bearing.settings.rate.ticks r.bearing.settings.rate.repeats r.rate);
-      alignment = rw g.alignment (ends r.bearing.settings.alignment.ticks r.bearing.settings.alignment.repeats r.alignment);
+      rate = rw g.rate (ends r.bearing.settings.rate.ticks r.bearing.settings.rate.repeats r.rate.running);
+      alignment = rw g.alignment (ends r.bearing.settings.alignment.ticks r.bearing.settings.alignment.repeats r.alignment.running);
       stored = λ z st. record { force = ap (λ d. cond d (Some c) None) (sym g.done); offer = refl };
-      borne = none_borne (standing r.bearing.force) (delivered_in (says c r.rate r.alignment)) g.plain;
+      borne = none_borne (standing r.bearing.force) (delivered_in (says c r.rate.running r.alignment.running)) g.plain;
       few = g.few;
     }
 
@@ -122,7 +122,7 @@ number_low (Err e) n h = h
 
 -- a set in force stands beside whatever is asked
 free : (r : Radio) (x : Force) (x' : Option (Exchange (List Bool))) (y' : Option (Exchange ℕ)) → r.bearing.force ≡ Some x → Sound r → Alone r.links (standing r.bearing.force) x' y'
-free r x x' y' is h = subst (λ o. Alone r.links (standing o) x' y') (sym is) (lone r.links x.set r.rate x' r.alignment y' (subst (λ o. Alone r.links (standing o) r.rate r.alignment) is h.alone))
+free r x x' y' is h = subst (λ o. Alone r.links (standing o) x' y') (sym is) (lone r.links x.set r.rate.running x' r.alignment.running y' (subst (λ o. Alone r.links (standing o) r.rate.running r.alignment.running) is h.alone))
 
 -- Rate
 rating : (takes : ℕ → Bool) (bars : List Bool) (r : Radio) (o : Option Force) → r.bearing.force ≡ o → Sound r → Fits r (rate bars) (rated_on takes bars r o)
@@ -130,10 +130,10 @@ rating takes bars r None is h = unmoved r h
 rating takes bars r (Some x) is h =
     let q = marks_for bars x in
     let l = r.bearing.settings.rate in
-    let f = slot_begun rate_frames RateControl takes l q r.rates r.rate in
-    cond_both (is_some r.rate) _ _ (Fits r (rate bars)) (λ _. unmoved r h)
+    let f = slot_begun rate_frames RateControl takes l q r.rate.next r.rate.running in
+    cond_both (is_some r.rate.running) _ _ (Fits r (rate bars)) (λ _. unmoved r h)
     (λ _. cond_both (allows_one bars x.set.combinations) _ _ (Fits r (rate bars))
-    (λ _. on_rate r (λ k. marks k (rate bars f.answer f.says)) f (number_after f.answer r.rates) (asked_in Rating RateControl rate_asked rate_frames alone RateFailure RateFailure acceptance_leads rate_proper l takes q r.rates r.rate h.rates h.rate) (number_low f.answer r.rates h.rates) (free r x f.next r.alignment is h) h)
+    (λ _. on_rate r (λ k. marks k (rate bars f.answer f.says)) f (number_after f.answer r.rate.next) (asked_in Rating RateControl rate_asked rate_frames alone RateFailure RateFailure acceptance_leads rate_proper l takes q r.rate.next r.rate.running h.rates h.rate) (number_low f.answer r.rate.next h.rates) (free r x f.next r.alignment.running is h) h)
     (λ _. unmoved r h))
 
 pub rated-fits : (takes : ℕ → Bool) (bars : List Bool) (r : Radio) → Sound r → Fits r (rate bars) (rated takes bars r)
@@ -144,13 +144,13 @@ aligning_by : (takes : ℕ → Bool) (direction : Direction) (steps : ℕ) (r : 
 aligning_by takes direction steps r x (Err e) is h = unmoved r h
 aligning_by takes direction steps r x (Ok q) is h =
     let l = r.bearing.settings.alignment in
-    let f = slot_begun alignment_frames TimeAlignment takes l q r.alignments r.alignment in
-    on_alignment r (λ k. marks k (align direction steps f.answer f.says)) f (number_after f.answer r.alignments) (asked_in Aligning TimeAlignment alignment_asked alignment_frames alone AlignmentFailure AlignmentFailure alignment_leads alignment_proper l takes q r.alignments r.alignment h.alignments h.alignment) (number_low f.answer r.alignments h.alignments) (free r x r.rate f.next is h) h
+    let f = slot_begun alignment_frames TimeAlignment takes l q r.alignment.next r.alignment.running in
+    on_alignment r (λ k. marks k (align direction steps f.answer f.says)) f (number_after f.answer r.alignment.next) (asked_in Aligning TimeAlignment alignment_asked alignment_frames alone AlignmentFailure AlignmentFailure alignment_turns alignment_proper l takes q r.alignment.next r.alignment.running h.alignments h.alignment) (number_low f.answer r.alignment.next h.alignments) (free r x r.rate.running f.next is h) h
 
 aligning : (takes : ℕ → Bool) (direction : Direction) (steps : ℕ) (r : Radio) (o : Option Force) → r.bearing.force ≡ o → Sound r → Fits r (align direction steps) (aligned_on takes direction steps r o)
 aligning takes direction steps r None is h = unmoved r h
 aligning takes direction steps r (Some x) is h =
-    cond_both (is_some r.alignment) _ _ (Fits r (align direction steps)) (λ _. unmoved r h) (λ _. aligning_by takes direction steps r x (shift_by direction steps) is h)
+    cond_both (is_some r.alignment.running) _ _ (Fits r (align direction steps)) (λ _. unmoved r h) (λ _. aligning_by takes direction steps r x (shift_by direction steps) is h)
 
 pub aligned-fits : (takes : ℕ → Bool) (direction : Direction) (steps : ℕ) (r : Radio) → Sound r → Fits r (align direction steps) (aligned takes direction steps r)
 aligned-fits takes direction steps r h = aligning takes direction steps r r.bearing.force refl h

@@ -1,5 +1,5 @@
 -- The law of whole runs, call by call.
-use Rattle.std.proofs.Common.{◌≡◌, ℕ, ◌≤◌, Bool, true, false, List, [], ◌∷◌, ◌++◌, length, is_some, Some, None, Option, Result, sym, refl, ap, ◌∙◌, subst, append_assoc, append-nil, arith}
+use Rattle.std.proofs.Common.{◌≡◌, ℕ, ◌≤◌, Bool, true, false, List, [], ◌∷◌, ◌++◌, length, is_some, Option, Result, sym, refl, ap, ◌∙◌, subst, append_assoc, append-nil, arith}
 use lib.ListN as ListN
 use Rattle.std.proofs.lemmas.List.{take_at}
 use Rattle.frames.specs.declared.refusal.Refusal.{Refusal}
@@ -72,7 +72,7 @@ module _ {L : Type 0} (waiting : L → List (List ℕ)) (takes : L → ℕ → B
       let f' = alignment_ticked (takes m.line) m.state in
       let g = twice_fits (takes e.line) (takes m.line) e.state (none_of e.state.links is) h in
       let few₁ = rate_few (takes e.line) e.state h in
-      let few₂ : length f'.says ≤ 1 = alignment_few (takes m.line) m.state (subst (λ (r : Radio). Asks r.alignment) (sym t.first.next) h.alignment) in
+      let few₂ : length f'.says ≤ 1 = alignment_few (takes m.line) m.state (subst (λ (r : Radio). Asks r.alignment.running) (sym t.first.next) h.alignment) in
       let said₁ : t.said ≡ f.says = did_say waiting f m.state tt e.line m.line [] t.said t.first (omega (arith, few₁)) in
       let long : length t.said ≡ length f.says = ap length said₁ in
       let said₂ : s ≡ t.said ++ f'.says = did_say waiting f' e'.state tt m.line e'.line t.said s t.second (omega (arith, few₁, few₂)) in
@@ -138,8 +138,8 @@ module _ {L : Type 0} (waiting : L → List (List ℕ)) (takes : L → ℕ → B
     settings : e.state.bearing.settings ≡ s
     sound : Sound e.state
     links : Keeps s.initialisation (watched e.state.links) (books Initialisation cs)
-    rate : Keeps s.rate (watched e.state.rate) (books RateControl cs)
-    alignment : Keeps s.alignment (watched e.state.alignment) (books TimeAlignment cs)
+    rate : Keeps s.rate (watched e.state.rate.running) (books RateControl cs)
+    alignment : Keeps s.alignment (watched e.state.alignment.running) (books TimeAlignment cs)
     stored : Stored e.state (sets cs)
     fair : Fair cs
     frames : taken cs ++ waiting e.line ≡ w ++ handed_over cs
@@ -185,7 +185,7 @@ module _ {L : Type 0} (waiting : L → List (List ℕ)) (takes : L → ℕ → B
       record {
         deliveries = h.fair;
         initialisation = kept s.initialisation.ticks s.initialisation.repeats (watched e'.state.links) (books Initialisation cs) h.links;
-        rate = kept s.rate.ticks s.rate.repeats (watched e'.state.rate) (books RateControl cs) h.rate;
-        alignment = kept s.alignment.ticks s.alignment.repeats (watched e'.state.alignment) (books TimeAlignment cs) h.alignment;
+        rate = kept s.rate.ticks s.rate.repeats (watched e'.state.rate.running) (books RateControl cs) h.rate;
+        alignment = kept s.alignment.ticks s.alignment.repeats (watched e'.state.alignment.running) (books TimeAlignment cs) h.alignment;
         frames = h.frames;
       }

@@ -14,7 +14,8 @@ use Rattle.exchange.specs.Asking.{begun, asking}
 use Rattle.questions.specs.Kinds.{links_frames, links_fit}
 use Rattle.bearer.specs.Bearing.{with_force}
 use Rattle.radio_end.specs.Radio.{Radio}
-use Rattle.radio_end.specs.Steps.{overtaken, beginning, start_begun, started}
+use Rattle.exchange.specs.Slots.{slot_started}
+use Rattle.radio_end.specs.Steps.{with_running, overtaken, start_begun, started}
 
 module _ (takes : ℕ → Bool) (c : Contents) (r : Radio) where
   tried : Bool → Effect Radio (Result (Unit {0}) Refusal)
@@ -61,23 +62,23 @@ module _ {L : Type 0} (waiting : L → List (List ℕ)) (takes : L → ℕ → B
   -- it takes it
   pub start_did : (b : Bool) (s : Radio) (slot : Option (Exchange Contents)) (l' : L) (r0 r1 r2 r3 : List Happening)
       → is_some r.links ≡ false → links_fit c ≡ true → first ≡ begun c 0 r.bearing.settings.initialisation → b ≡ takes l (length (links_frames first.question first.number)) → b ≡ true
-      → r0 ≡ [] → r1 ≡ all_noted (overtaken RateControl r.rate) r0 → r2 ≡ all_noted (overtaken TimeAlignment r.alignment) r1
-      → Did waiting (beginning links_frames Initialisation (takes l) first) slot tt l l' r2 r3
-      → s ≡ record r { bearing = with_force None r.bearing; links = slot; rate = None; alignment = None }
+      → r0 ≡ [] → r1 ≡ all_noted (overtaken RateControl r.rate.running) r0 → r2 ≡ all_noted (overtaken TimeAlignment r.alignment.running) r1
+      → Did waiting (slot_started links_frames Initialisation (takes l) first) slot tt l l' r2 r3
+      → s ≡ record r { bearing = with_force None r.bearing; links = slot; rate = with_running r.rate None; alignment = with_running r.alignment None }
       → Did waiting (started (takes l) c r) s (Ok tt) l l' [] r3
   start_did b s slot l' r0 r1 r2 r3 idle fit is taken accepted none rate alignment did next =
       let f = links_frames c 0 in
       let takes_it : takes l (length f) ≡ true = ap (λ (e : Exchange Contents). takes l (length (links_frames e.question e.number))) (sym is) ∙ sym taken ∙ accepted in
       let named : asking links_frames (takes l) first ≡ HandedOver f = ap (asking links_frames (takes l)) is ∙ ap (λ b. sending b f) takes_it in
-      let handed : handed_in (Started Initialisation ∷ asking links_frames (takes l) first ∷ []) ≡ handed_in (overtaken RateControl r.rate ++ overtaken TimeAlignment r.alignment ++ Started Initialisation ∷ HandedOver f ∷ []) =
-      ap (λ h. handed_in (Started Initialisation ∷ h ∷ [])) named ∙ sym (handed_first r.rate r.alignment f) in
+      let handed : handed_in (Started Initialisation ∷ asking links_frames (takes l) first ∷ []) ≡ handed_in (overtaken RateControl r.rate.running ++ overtaken TimeAlignment r.alignment.running ++ Started Initialisation ∷ HandedOver f ∷ []) =
+      ap (λ h. handed_in (Started Initialisation ∷ h ∷ [])) named ∙ sym (handed_first r.rate.running r.alignment.running f) in
       let said : r3 ≡ all_noted (Started Initialisation ∷ HandedOver f ∷ []) r2 = did.says ∙ ap (λ h. all_noted (Started Initialisation ∷ h ∷ []) r2) named in
       subst (λ (x : Effect Radio (Result (Unit {0}) Refusal)). Did waiting x s (Ok tt) l l' [] r3) (sym (started_as (takes l) c r true idle fit takes_it))
       (record {
-        next = next ∙ ap (λ o. record r { bearing = with_force None r.bearing; links = o; rate = None; alignment = None }) (did.next ∙ ap Some is);
+        next = next ∙ ap (λ o. record r { bearing = with_force None r.bearing; links = o; rate = with_running r.rate None; alignment = with_running r.alignment None }) (did.next ∙ ap Some is);
         answer = refl;
         line = subst (λ fs. Passed waiting l l' fs) handed did.line;
         says =
-            in_turn (overtaken RateControl r.rate) (overtaken TimeAlignment r.alignment) (Started Initialisation ∷ HandedOver f ∷ []) r0 r1 r2 r3 none rate alignment said
-            ∙ named_in_turn r.rate r.alignment (Started Initialisation) (HandedOver f);
+            in_turn (overtaken RateControl r.rate.running) (overtaken TimeAlignment r.alignment.running) (Started Initialisation ∷ HandedOver f ∷ []) r0 r1 r2 r3 none rate alignment said
+            ∙ named_in_turn r.rate.running r.alignment.running (Started Initialisation) (HandedOver f);
       })

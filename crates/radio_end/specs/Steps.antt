@@ -1,15 +1,17 @@
 -- What each call does to the meaning of a radio end.
-use Rattle.std.specs.Prelude.{ℕ, ◌+◌, ◌%◌, Bool, false, List, [], ◌∷◌, ◌++◌, length, take, is_some, Some, None, Ok, Err, Option, Result, if◌then◌else◌}
+use Rattle.std.specs.Prelude.{ℕ, ◌+◌, Bool, false, List, [], ◌∷◌, ◌++◌, length, take, is_some, Some, None, Ok, Err, Option, Result, if◌then◌else◌}
 use Rattle.frames.specs.declared.refusal.Refusal.{Refusal}
 use Rattle.frames.specs.declared.refusal.Refusal.TheVariants.{WrongPhase, LinkTooLong, LineDeclines, AlreadyRuns, ValueRange, UnexpectedProcedure}
 use Rattle.frames.specs.declared.procedure.Procedure.{Procedure}
 use Rattle.frames.specs.declared.procedure.Procedure.TheVariants.{RateControl, TimeAlignment, ErrorEvent}
 use Rattle.frames.specs.declared.procedure.Procedure.TheVariants.{Initialisation as Offering}
-use Rattle.frames.specs.declared.distance.Distance.{Distance}
 use Rattle.frames.specs.declared.shift.Direction.{Direction}
 use Rattle.frames.specs.Distances.{distance_code}
 use Rattle.frames.specs.Values.{shift_by}
+use Rattle.frames.specs.declared.frame.AckNack.TheVariants.{Ack, Nack}
+use Rattle.frames.specs.Contents.{Reply}
 use Rattle.frames.specs.Contents as Frames
+use Rattle.payloads.specs.declared.event.ErrorEvent.{ErrorEvent as AnEvent}
 use Rattle.payloads.specs.Payloads.{event_in}
 use Rattle.sets.specs.Contents.{Contents}
 use Rattle.set_in_force.specs.Looks.{highest_of}
@@ -20,14 +22,12 @@ use Rattle.reports.specs.declared.ending.Ending.TheVariants.{NoAnswer, Rejected,
 use Rattle.reports.specs.declared.happening.Happening.{Happening}
 use Rattle.reports.specs.declared.happening.Happening.TheVariants.{Started, Ended, HandedOver}
 use Rattle.reports.specs.Effects.{Effect, refuses, within}
-use Rattle.exchange.specs.declared.answer.AckNack.{AckNack}
-use Rattle.exchange.specs.declared.answer.AckNack.TheVariants.{Ack, Nack}
 use Rattle.exchange.specs.declared.exchange.Exchange.{Exchange}
-use Rattle.exchange.specs.Answers.{cause_in}
-use Rattle.exchange.specs.Asking.{begun, announced, leads}
-use Rattle.exchange.specs.Slots.{slot_begun, slot_ticked, slot_heard}
+use Rattle.exchange.specs.declared.numbered.Numbered.{Numbered}
+use Rattle.exchange.specs.Asking.{begun}
+use Rattle.exchange.specs.Slots.{numbered_begun, slot_ticked, slot_heard}
 use Rattle.exchange.specs.Books.{done_in}
-use Rattle.questions.specs.Answering.{acceptance_leads, alignment_in, alignment_leads}
+use Rattle.questions.specs.Answering.{acceptance_leads, alignment_turns}
 use Rattle.questions.specs.Kinds.{links_frames, links_follow, links_fit, rate_frames, alignment_frames, alone}
 use Rattle.bearer.specs.Bearing.{Bearing, Force, with_force, in_force}
 use Rattle.bearer.specs.Errors.{objects}
@@ -35,7 +35,7 @@ use Rattle.bearer.specs.Traffics.{Data, got, tick_passed}
 use Rattle.bearer.specs.Allowing.{allows_one}
 use Rattle.radio_end.specs.declared.received.Received.{Received}
 use Rattle.radio_end.specs.declared.received.Received.TheVariants.{Delivered}
-use Rattle.radio_end.specs.declared.received.Received.TheVariants.{ErrorEvent as Event, Ack as Acknowledged, Nack as Declined}
+use Rattle.radio_end.specs.declared.received.Received.TheVariants.{ErrorEvent as Told, Ack as Acknowledged, Nack as Declined}
 use Rattle.radio_end.specs.Radio.{Radio}
 
 -- what the bearer does, in the end
@@ -55,14 +55,9 @@ abbrev pub overtaken : {Q : Type 0} → Kind → Option (Exchange Q) → List Ha
 overtaken k None = []
 overtaken k (Some e) = Ended k Overtaken ∷ []
 
--- an exchange begins: its start is named, and its first frame sent
-abbrev pub beginning : {Q : Type 0} → (Q → ℕ → List ℕ) → Kind → (ℕ → Bool) → Exchange Q → Effect (Option (Exchange Q)) (Unit {0})
-beginning frames kind takes e = record { next = Some e; says = (announced frames kind takes e).says; answer = tt }
-
--- a question that is asked uses up its number
-abbrev pub number_after : {A : Type 0} → Result A Refusal → ℕ → ℕ
-number_after (Ok a) n = (n + 1) % 4
-number_after (Err e) n = n
+-- the number of the next question stays
+abbrev pub with_running : {Q : Type 0} → Numbered Q → Option (Exchange Q) → Numbered Q
+with_running n x = record n { running = x }
 
 -- as many of the marks as the set's highest RFCI asks for
 abbrev pub marks_for : List Bool → Force → List Bool
@@ -81,21 +76,21 @@ coming says (Some e) b = with_force (if done_in Initialisation says then Some (i
 -- whether an answer of a procedure is waited for; an error event has none
 abbrev pub awaited : Procedure → Radio → Bool
 awaited Offering r = is_some r.links
-awaited RateControl r = is_some r.rate
-awaited TimeAlignment r = is_some r.alignment
+awaited RateControl r = is_some r.rate.running
+awaited TimeAlignment r = is_some r.alignment.running
 awaited ErrorEvent r = false
 
 -- a received error event is told; one that is refused sends nothing back
-abbrev pub event_told : Radio → Result (Distance × ℕ) Refusal → Effect Radio (Result Received Refusal)
-event_told r e = record { next = r; says = []; answer = telling (λ e. Event e.1 (distance_code e.0 + 1)) e }
+abbrev pub event_told : Radio → Result AnEvent Refusal → Effect Radio (Result Received Refusal)
+event_told r e = record { next = r; says = []; answer = telling (λ e. Told e.cause (distance_code e.distance + 1)) e }
 
 module _ (takes : ℕ → Bool) where
   -- Start: running exchanges of rate and alignment are overtaken, no set is in force any more, and link 0 is handed over
   abbrev pub start_begun : Contents → Radio → Effect Radio (Result (Unit {0}) Refusal)
   start_begun c r =
       record {
-        next = record r { bearing = with_force None r.bearing; links = Some (begun c 0 r.bearing.settings.initialisation); rate = None; alignment = None };
-        says = overtaken Rate r.rate ++ overtaken Alignment r.alignment ++ Started Initialisation ∷ HandedOver (links_frames c 0) ∷ [];
+        next = record r { bearing = with_force None r.bearing; links = Some (begun c 0 r.bearing.settings.initialisation); rate = with_running r.rate None; alignment = with_running r.alignment None };
+        says = overtaken Rate r.rate.running ++ overtaken Alignment r.alignment.running ++ Started Initialisation ∷ HandedOver (links_frames c 0) ∷ [];
         answer = Ok tt;
       }
 
@@ -108,13 +103,12 @@ module _ (takes : ℕ → Bool) where
   -- Rate
   abbrev pub rate_begun : List Bool → Radio → Effect Radio (Result (Unit {0}) Refusal)
   rate_begun bars r =
-      let f = slot_begun rate_frames Rate takes r.bearing.settings.rate bars r.rates r.rate in
-      record { next = record r { rate = f.next; rates = number_after f.answer r.rates }; says = f.says; answer = f.answer }
+      within (λ x. record r { rate = x }) (numbered_begun rate_frames Rate takes r.bearing.settings.rate bars r.rate)
 
   abbrev pub rated_on : List Bool → Radio → Option Force → Effect Radio (Result (Unit {0}) Refusal)
   rated_on bars r None = refuses r WrongPhase
   rated_on bars r (Some x) =
-      if is_some r.rate then refuses r AlreadyRuns
+      if is_some r.rate.running then refuses r AlreadyRuns
       else if allows_one bars x.set.combinations then rate_begun (marks_for bars x) r
       else refuses r ValueRange
 
@@ -124,8 +118,7 @@ module _ (takes : ℕ → Bool) where
   -- Alignment
   abbrev pub alignment_begun : ℕ → Radio → Effect Radio (Result (Unit {0}) Refusal)
   alignment_begun octet r =
-      let f = slot_begun alignment_frames Alignment takes r.bearing.settings.alignment octet r.alignments r.alignment in
-      record { next = record r { alignment = f.next; alignments = number_after f.answer r.alignments }; says = f.says; answer = f.answer }
+      within (λ x. record r { alignment = x }) (numbered_begun alignment_frames Alignment takes r.bearing.settings.alignment octet r.alignment)
 
   abbrev pub aligned_by : Radio → Result ℕ Refusal → Effect Radio (Result (Unit {0}) Refusal)
   aligned_by r (Err e) = refuses r e
@@ -133,27 +126,24 @@ module _ (takes : ℕ → Bool) where
 
   abbrev pub aligned_on : Direction → ℕ → Radio → Option Force → Effect Radio (Result (Unit {0}) Refusal)
   aligned_on direction steps r None = refuses r WrongPhase
-  aligned_on direction steps r (Some x) = if is_some r.alignment then refuses r AlreadyRuns else aligned_by r (shift_by direction steps)
+  aligned_on direction steps r (Some x) = if is_some r.alignment.running then refuses r AlreadyRuns else aligned_by r (shift_by direction steps)
 
   abbrev pub aligned : Direction → ℕ → Radio → Effect Radio (Result (Unit {0}) Refusal)
   aligned direction steps r = aligned_on direction steps r r.bearing.force
 
-  module _ (sort : AckNack) (version : ℕ) (payload : List ℕ) (number : ℕ) where
+  module _ (a : Reply) where
     abbrev pub links_heard : Radio → Effect Radio (Result (Option ℕ) Refusal)
     links_heard r =
-        let cause = cause_in sort version payload in
-        let f = slot_heard links_frames Initialisation takes r.bearing.settings.initialisation links_follow Rejected (leads acceptance_leads cause) cause number r.links in
+        let f = slot_heard links_frames Initialisation takes r.bearing.settings.initialisation links_follow Rejected acceptance_leads a r.links in
         record { next = record r { bearing = coming f.says r.links r.bearing; links = f.next }; says = f.says; answer = f.answer }
 
     abbrev pub rate_heard : Radio → Effect Radio (Result (Option ℕ) Refusal)
     rate_heard r =
-        let cause = cause_in sort version payload in
-        within (λ x. record r { rate = x }) (slot_heard rate_frames Rate takes r.bearing.settings.rate alone RateFailure (leads acceptance_leads cause) cause number r.rate)
+        within (λ x. record r { rate = with_running r.rate x }) (slot_heard rate_frames Rate takes r.bearing.settings.rate alone RateFailure acceptance_leads a r.rate.running)
 
     abbrev pub alignment_heard : Radio → Effect Radio (Result (Option ℕ) Refusal)
     alignment_heard r =
-        within (λ x. record r { alignment = x })
-        (slot_heard alignment_frames Alignment takes r.bearing.settings.alignment alone AlignmentFailure (leads alignment_leads (alignment_in sort version payload)) (cause_in sort version payload) number r.alignment)
+        within (λ x. record r { alignment = with_running r.alignment x }) (slot_heard alignment_frames Alignment takes r.bearing.settings.alignment alone AlignmentFailure alignment_turns a r.alignment.running)
 
     -- an answer goes to the exchange of its procedure
     abbrev pub heard : Procedure → Radio → Effect Radio (Result (Option ℕ) Refusal)
@@ -163,15 +153,15 @@ module _ (takes : ℕ → Bool) where
     heard ErrorEvent r = refuses r UnexpectedProcedure
 
     -- where none is waited for, an error event may go back
-    abbrev pub answered : Procedure → Radio → Effect Radio (Result Received Refusal)
-    answered procedure r = if awaited procedure r then tells answer_told (heard procedure r) else on_bearing r (objects takes UnexpectedProcedure r.bearing)
+    abbrev pub answered : Radio → Effect Radio (Result Received Refusal)
+    answered r = if awaited a.procedure r then tells answer_told (heard a.procedure r) else on_bearing r (objects takes UnexpectedProcedure r.bearing)
 
   -- user data is told as delivered where the bearer accepts it
   abbrev pub data_received : Data → Radio → Effect Radio (Result Received Refusal)
   data_received d r = tells (λ _. Delivered) (on_bearing r (got takes d r.bearing))
 
   -- at the radio end no question is expected but an error event
-  abbrev pub questioned : Procedure → Result (Distance × ℕ) Refusal → Radio → Effect Radio (Result Received Refusal)
+  abbrev pub questioned : Procedure → Result AnEvent Refusal → Radio → Effect Radio (Result Received Refusal)
   questioned Offering e r = on_bearing r (objects takes UnexpectedProcedure r.bearing)
   questioned RateControl e r = on_bearing r (objects takes UnexpectedProcedure r.bearing)
   questioned TimeAlignment e r = on_bearing r (objects takes UnexpectedProcedure r.bearing)
@@ -183,8 +173,10 @@ module _ (takes : ℕ → Bool) where
   received_on (Ok (Frames.user_data type number fqc rfci checksum place payload)) r =
       data_received (record { header = record { data_type = type; number = number; fqc = fqc; rfci = rfci }; checksum = checksum; place = place; payload = payload }) r
   received_on (Ok (Frames.question number version procedure checksum place payload)) r = questioned procedure (event_in version checksum payload) r
-  received_on (Ok (Frames.ack number version procedure place payload)) r = answered Ack version payload number procedure r
-  received_on (Ok (Frames.nack number version procedure place payload)) r = answered Nack version payload number procedure r
+  received_on (Ok (Frames.ack number version procedure place payload)) r =
+      answered (record { ack_nack = Ack; number = number; version = version; procedure = procedure; payload = payload }) r
+  received_on (Ok (Frames.nack number version procedure place payload)) r =
+      answered (record { ack_nack = Nack; number = number; version = version; procedure = procedure; payload = payload }) r
 
   abbrev pub received : List ℕ → Radio → Effect Radio (Result Received Refusal)
   received octets r = received_on (Frames.parsed octets) r
@@ -194,10 +186,10 @@ module _ (takes : ℕ → Bool) where
   links_ticked r = within (λ x. record r { links = x }) (slot_ticked links_frames Initialisation takes r.bearing.settings.initialisation NoAnswer r.links)
 
   abbrev pub rate_ticked : Radio → Effect Radio (Unit {0})
-  rate_ticked r = within (λ x. record r { rate = x }) (slot_ticked rate_frames Rate takes r.bearing.settings.rate RateFailure r.rate)
+  rate_ticked r = within (λ x. record r { rate = with_running r.rate x }) (slot_ticked rate_frames Rate takes r.bearing.settings.rate RateFailure r.rate.running)
 
   abbrev pub alignment_ticked : Radio → Effect Radio (Unit {0})
-  alignment_ticked r = within (λ x. record r { alignment = x }) (slot_ticked alignment_frames Alignment takes r.bearing.settings.alignment AlignmentFailure r.alignment)
+  alignment_ticked r = within (λ x. record r { alignment = with_running r.alignment x }) (slot_ticked alignment_frames Alignment takes r.bearing.settings.alignment AlignmentFailure r.alignment.running)
 
 -- before them user data is numbered on
 abbrev pub timed : Radio → Radio

@@ -1,11 +1,13 @@
 // What a received frame was.
+use frames::cause::Cause;
+
 #[derive(Clone, Copy, PartialEq, Eq, Debug)]
 pub enum Received {
     // user data, which the report names
     Delivered,
     // an error event: its cause, and its distance plus one, a number since the farthest one has no name
-    ErrorEvent(u8, u8),
+    ErrorEvent { cause: Cause, distance: u8 },
     Ack,
-    // with its cause, a number as the report and the interface tell it: causes that have no name come too
-    Nack(u8),
+    // with its cause
+    Nack(Cause),
 }

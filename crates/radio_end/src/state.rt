@@ -10,21 +10,19 @@ mod ticking;
 
 use bearer::bearer::Bearer;
 use exchange::exchange::Exchange;
-use frames::number::Number;
+use exchange::numbered::Numbered;
 use questions::alignment::AlignmentQuestion;
 use questions::links::Links;
 use questions::rate::RateQuestion;
 use std::marker::Model;
 
-// The bearer, an exchange of each kind while it runs, the number of the next rate and alignment question, and the line.
+// The bearer, an exchange of each kind while it runs, and the line. An offer begins at number 0; rate and alignment questions are numbered on.
 #[derive(Drop)]
 pub struct RadioEnd<L> {
     bearer: Bearer,
     links: Option<Exchange<Links>>,
-    rate: Option<Exchange<RateQuestion>>,
-    alignment: Option<Exchange<AlignmentQuestion>>,
-    rates: Number,
-    alignments: Number,
+    rate: Numbered<RateQuestion>,
+    alignment: Numbered<AlignmentQuestion>,
     line: L,
 }
 
@@ -33,5 +31,5 @@ impl<L> Model for RadioEnd<L> {
 
     ghost Value = { On Radio L };
 
-    ghost view = { λ e. record { state = record { bearing = e.bearer; links = e.links; rate = e.rate; alignment = e.alignment; rates = e.rates.value; alignments = e.alignments.value }; line = e.line } };
+    ghost view = { λ e. record { state = record { bearing = e.bearer; links = e.links; rate = e.rate; alignment = e.alignment }; line = e.line } };
 }

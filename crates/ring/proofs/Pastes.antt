@@ -1,12 +1,14 @@
 -- Rows of octets that are copied into a store or out of it, in one part or, round the end, in two.
 
-use Rattle.std.proofs.Common.{◌≡◌, ℕ, ◌+◌, ◌-◌, ◌<◌, ◌≤◌, ◌⊎◌, List, ◌++◌, length, get_or, take, drop, sym, ap, ◌∙◌, ⊎_elim, append_assoc, arith, drop-drop, rules}
+use Rattle.std.proofs.Common.{◌≡◌, ℕ, suc, ◌+◌, ◌-◌, ◌<◌, ◌≤◌, ◌⊎◌, List, [], ◌∷◌, ◌++◌, length, get_or, set, take, drop, Some, Option, sym, ap, ◌∙◌, ⊎_elim, append_assoc, arith, drop-drop, rules}
+use Rattle.std.specs.Option.{IsSome}
 use borrow.Rule.Slice.PartMut.{put_mid}
-use Rattle.std.proofs.lemmas.List.{places, get_or-take, get_or-drop, get_or_append_left, get_or-append_right, length-append, take_at, drop_at}
+use Rattle.std.proofs.lemmas.List.{places, get_or-take, get_or-drop, get_or_append_left, get_or-append_right, length-append, length-set, take_at, drop_at}
 use Rattle.std.proofs.lemmas.Bool.{cases_lt}
 use Rattle.std.proofs.lemmas.Bool.Decides.{nat_tests}
-use Rattle.lines.specs.Circle.{place, window}
-use Rattle.lines.proofs.Turns.{window_puts, window_is}
+use Rattle.lines.specs.Circle.{place, window, Turn, Round, items_in, gain_at, gained, lose_at, lost}
+use Rattle.lines.proofs.Turns.{window_puts, window_is, window-behind, window_push, window_cut, place_more, window_front, length_window, place_below, gain_some, gained_some, lose_some, lost_some}
+use Rattle.ring.specs.Round.{Held, held, held_in}
 
 module _ (xs ys : List ℕ) (a k : ℕ) (l : a ≤ length xs) where
   pub mid_below : (p : ℕ) → p < a → get_or (put_mid a k xs ys) p 0 ≡ get_or xs p 0
@@ -122,3 +124,137 @@ laid out a b l m n e s =
     ∙ ap (λ x. a ++ (b ++ drop m x)) (drop_at a (drop l out) l e)
     ∙ ap (λ x. a ++ (b ++ x)) (drop-drop m l out ∙ ap (λ k. drop k out) s)
     ∙ sym (append_assoc a b (drop n out))
+
+-- what a turning tells, in the words of what is held
+module _ (octets : List ℕ) (t : Turn) (h : Held) (is : held_in octets t ≡ h) where
+  pub used_is : t.used ≡ length h.content
+  used_is = sym (length_window 0 octets t.size t.head t.used) ∙ ap (λ h. length h.content) is
+
+  -- a place, where n octets more have room
+  pub held_gain : (n : ℕ) (r : Option ℕ) → r ≡ gain_at n t → length h.content + n ≤ h.size → IsSome r
+  held_gain n r told room =
+      let used = used_is in
+      let size = ap (λ h. h.size) is in
+      gain_some n t r told (omega arith)
+
+  -- and where n are held
+  pub held_lose : (n : ℕ) (r : Option ℕ) → r ≡ lose_at n t → n ≤ length h.content → IsSome r
+  held_lose n r told some = let used = used_is in lose_some n t r told (omega arith)
+
+  -- the octets without the n oldest
+  pub held_drop : (n : ℕ) (r : Option ℕ) (t' : Turn) (at : ℕ) → 1 ≤ t.size → Round t → r ≡ lose_at n t → t' ≡ lost n t → r ≡ Some at → held_in octets t' ≡ held h.size (drop n h.content)
+  held_drop n r t' at some round told turns at_is =
+      let less = lost_some n t t' r told turns at at_is in
+      let begun : t.head < t.size = omega (arith, round.begun) in
+      ap (held_in octets) less.2
+      ∙ ap (held t.size) (sym (window-behind 0 octets t.size t.head t.used n begun round.within less.0))
+      ∙ ap (λ h. held h.size (drop n h.content)) is
+
+-- the turning of a write: what it tells, and where it begins and ends
+module _ (octets w : List ℕ) (t t' : Turn) (h : Held) (at end : ℕ) (r : Option ℕ) (is : held_in octets t ≡ h) (some : 1 ≤ t.size) (wide : t.size ≤ length octets) (round : Round t) where
+  module _ (told : r ≡ gain_at (length w) t) (turns : t' ≡ gained (length w) t) (at_is : r ≡ Some at) (ends : end ≡ t'.size) where
+    behind : (octets' : List ℕ) → window 0 octets' t.size t.head (t.used + length w) ≡ window 0 octets t.size t.head t.used ++ w → held_in octets' t' ≡ held h.size (h.content ++ w)
+    behind octets' e =
+        let more = gained_some (length w) t t' r told turns round at at_is in
+        ap (held_in octets') more.2 ∙ ap (held t.size) e ∙ ap (λ h. held h.size (h.content ++ w)) is
+
+    -- in one part
+    pub held_flat : (m : ℕ) (y : List ℕ) → length w ≤ end - at → m ≡ length w → y ≡ w → held_in (put_mid at m octets y) t' ≡ held h.size (h.content ++ w)
+    held_flat m y left m_is y_is =
+        let more = gained_some (length w) t t' r told turns round at at_is in
+        let size = ends ∙ ap (λ u. u.size) more.2 in
+        let begun : t.head < t.size = omega (arith, round.begun) in
+        let below = place_below t.size t.head t.used begun round.within in
+        ap (λ y. held_in (put_mid at m octets y) t') y_is
+        ∙ behind (put_mid at m octets w) (window_flat octets w t.size t.head t.used at begun more.0 wide more.1 (omega arith) m m_is)
+
+    -- in two
+    pub held_wrap : (y₁ y₂ : List ℕ) (m₁ m₂ : ℕ) → end - at < length w → y₁ ≡ take (end - at - 0) w → y₂ ≡ take (length w - (end - at)) (drop (end - at) w) → m₁ ≡ end - at → m₂ ≡ length w - (end - at)
+        → held_in (put_mid 0 m₂ (put_mid at m₁ octets y₁) y₂) t' ≡ held h.size (h.content ++ w)
+    held_wrap y₁ y₂ m₁ m₂ left e₁ e₂ f₁ f₂ =
+        let more = gained_some (length w) t t' r told turns round at at_is in
+        let size = ends ∙ ap (λ u. u.size) more.2 in
+        let begun : t.head < t.size = omega (arith, round.begun) in
+        let below = place_below t.size t.head t.used begun round.within in
+        behind (put_mid 0 m₂ (put_mid at m₁ octets y₁) y₂)
+        (window_wrap octets w t.size t.head t.used at begun more.0 wide more.1 (end - at) (omega arith) (omega arith) y₁ y₂ m₁ m₂ e₁ e₂ f₁ f₂)
+
+-- the turning of a read: the n oldest octets, in a buffer
+module _ (octets out : List ℕ) (t t' : Turn) (h : Held) (n at end : ℕ) (r : Option ℕ) (is : held_in octets t ≡ h) (some : 1 ≤ t.size) (wide : t.size ≤ length octets) (round : Round t) where
+  module _ (told : r ≡ lose_at n t) (turns : t' ≡ lost n t) (at_is : r ≡ Some at) (ends : end ≡ t'.size) where
+    -- in one part
+    pub out_flat : (y : List ℕ) → n ≤ end - at → y ≡ take (at + n - at) (drop at octets) → y ++ drop (n - 0) out ≡ take n h.content ++ drop n out
+    out_flat y left y_is =
+        let less = lost_some n t t' r told turns at at_is in
+        let size = ends ∙ ap (λ u. u.size) less.2 in
+        let first = less.1 in
+        let within = round.within in
+        let begun : t.head < t.size = omega (arith, round.begun) in
+        let front = window_front 0 octets t.size t.head t.used n less.0 in
+        let part = part_flat octets t.size t.head n begun (omega arith) wide (omega arith) in
+        let many : at + n - at ≡ n = omega arith in
+        let all : n - 0 ≡ n = omega arith in
+        ap (λ x. x ++ drop (n - 0) out) (y_is ∙ ap (λ k. take k (drop at octets)) many ∙ ap (λ k. take n (drop k octets)) first ∙ sym part ∙ sym front)
+        ∙ ap (λ k. take n (window 0 octets t.size t.head t.used) ++ drop k out) all
+        ∙ ap (λ h. take n h.content ++ drop n out) is
+
+    -- in two
+    pub out_wrap : (a b : List ℕ) (m : ℕ) → end - at < n → a ≡ take (end - at) (drop at octets) → b ≡ take m octets → m ≡ n - (end - at)
+        → put_mid (end - at) (n - (end - at)) (a ++ drop (end - at - 0) out) b ≡ take n h.content ++ drop n out
+    out_wrap a b m more a_is b_is m_is =
+        let less = lost_some n t t' r told turns at at_is in
+        let size = ends ∙ ap (λ u. u.size) less.2 in
+        let start = less.1 in
+        let within = round.within in
+        let begun : t.head < t.size = omega (arith, round.begun) in
+        let front = window_front 0 octets t.size t.head t.used n less.0 in
+        let left = end - at in
+        let part = part_wrap octets t.size t.head n begun (omega arith) wide left (omega arith) (omega arith) in
+        let first : a ≡ take left (drop t.head octets) = a_is ∙ ap (λ k. take left (drop k octets)) start in
+        let second : b ≡ take (n - left) octets = b_is ∙ ap (λ k. take k octets) m_is in
+        let far : length a ≡ left = ap length first ∙ search (rules, places) in
+        let all : left - 0 ≡ left = omega arith in
+        ap (λ k. put_mid left (n - left) (a ++ drop k out) b) all
+        ∙ laid out a b left (n - left) n far (omega arith)
+        ∙ ap (λ x. x ++ drop n out) (ap (λ x. x ++ b) first ∙ ap (λ x. take left (drop t.head octets) ++ x) second ∙ sym part ∙ sym front)
+        ∙ ap (λ h. take n h.content ++ drop n out) is
+
+-- two octets more, behind the others
+pub held_write : (octets : List ℕ) (t t' : Turn) (h : Held) (first second high low : ℕ) → 1 ≤ t.size → Round t → t.used + 2 ≤ t.size → t.size ≤ length octets → first ≡ place t.size t.head t.used → second ≡ place t.size t.head (t.used + 1)
+    → t' ≡ record { size = t.size; head = t.head; used = t.used + 2 } → held_in octets t ≡ h → held_in (set (set octets first high) second low) t' ≡ held h.size (h.content ++ high ∷ low ∷ [])
+held_write octets t t' h first second high low some round room wide first_is second_is turned is =
+    let begun : t.head < t.size = omega (arith, round.begun) in
+    let one : t.used + 1 ≡ suc t.used = omega arith in
+    let two : t.used + 2 ≡ suc (suc t.used) = omega arith in
+    let at = place t.size t.head t.used in
+    let next = place t.size t.head (suc t.used) in
+    let long = length-set octets at high in
+    ap (held_in (set (set octets first high) second low)) (turned ∙ ap (λ n. record { size = t.size; head = t.head; used = n }) two)
+    ∙ ap (λ p. held t.size (window 0 (set (set octets p high) second low) t.size t.head (suc (suc t.used)))) first_is
+    ∙ ap (λ p. held t.size (window 0 (set (set octets at high) p low) t.size t.head (suc (suc t.used)))) (second_is ∙ ap (place t.size t.head) one)
+    ∙ ap (held t.size)
+    (window_push 0 (set octets at high) t.size t.head (suc t.used) low begun (omega arith) (omega arith)
+    ∙ ap (λ w. w ++ low ∷ []) (window_push 0 octets t.size t.head t.used high begun (omega arith) wide)
+    ∙ append_assoc (window 0 octets t.size t.head t.used) (high ∷ []) (low ∷ []))
+    ∙ ap (λ h. held h.size (h.content ++ high ∷ low ∷ [])) is
+
+-- the two oldest octets, and those behind them
+pub held_read : (octets : List ℕ) (t t' : Turn) (h : Held) (first second : ℕ) → 1 ≤ t.size → Round t → 2 ≤ t.used → first ≡ t.head → second ≡ place t.size t.head 1
+    → t' ≡ record { size = t.size; head = place t.size t.head 2; used = t.used - 2 } → held_in octets t ≡ h → h ≡ held t'.size (get_or octets first 0 ∷ get_or octets second 0 ∷ items_in 0 octets t')
+held_read octets t t' h first second some round used first_is second_is turned is =
+    let begun : t.head < t.size = omega (arith, round.begun) in
+    let within = round.within in
+    let fewer : t.used - 1 - 1 ≡ t.used - 2 = omega arith in
+    let next = place t.size t.head 1 in
+    sym is
+    ∙ ap (held t.size)
+    (window_cut 0 octets t.size t.head t.used (omega arith)
+    ∙ ap (λ w. get_or octets t.head 0 ∷ w)
+    (window_cut 0 octets t.size next (t.used - 1) (omega arith)
+    ∙ ap (λ w. get_or octets next 0 ∷ w)
+    (ap (λ p. window 0 octets t.size p (t.used - 1 - 1)) (place_more t.size t.head 1 begun (omega arith))
+    ∙ ap (window 0 octets t.size (place t.size t.head 2)) fewer)))
+    ∙ sym
+    (ap (λ t'. held t'.size (get_or octets first 0 ∷ get_or octets second 0 ∷ items_in 0 octets t')) turned
+    ∙ ap (λ p. held t.size (get_or octets p 0 ∷ get_or octets second 0 ∷ window 0 octets t.size (place t.size t.head 2) (t.used - 2))) first_is
+    ∙ ap (λ p. held t.size (get_or octets t.head 0 ∷ get_or octets p 0 ∷ window 0 octets t.size (place t.size t.head 2) (t.used - 2))) second_is)

@@ -14,6 +14,8 @@ pub const GREATEST: usize = 65536;
 
 pub type RingSize = Size<LEAST, GREATEST>;
 
+// `RingSize::new` stands in lines and promises a range in general; that the size of a ring is 514 to 65,536 is promised here,
+// since the name of a type has no contract of its own.
 pub fn ring_size(octets: usize) -> Result<RingSize, Refusal>
     ensures { result ≡ octets_in octets }
 {

@@ -7,6 +7,7 @@ use crate::circle::Circle;
 use crate::size::RingSize;
 use frames::octets::LONGEST;
 use frames::refusal::Refusal;
+use lines::length::fits;
 use lines::store::Store;
 use std::marker::Model;
 
@@ -54,7 +55,7 @@ impl Store for RingStore {
 
     #[tactic(auto, using(crate::proofs::Packs::used_cost))]
     fn has_room(&self, length: usize) -> bool {
-        length >= 1 && length <= LONGEST && length + 2 <= self.octets.left()
+        fits(length) && length + 2 <= self.octets.left()
     }
 
     fn push(&mut self, frame: &[u8]) -> Result<(), Refusal> {
@@ -62,20 +63,21 @@ impl Store for RingStore {
         if !self.has_room(n) {
             return Err(Refusal::LineDeclines);
         }
-        self.octets.write_octet((n / 256) as u8);
-        self.octets.write_octet((n % 256) as u8);
+        self.octets.write_pair((n / 256) as u8, (n % 256) as u8);
         self.octets.write(frame);
         Ok(())
     }
 
-    fn pop(&mut self, out: &mut [u8; LONGEST]) -> Option<usize> {
+    fn pop(&mut self, out: &mut [u8]) -> Result<Option<usize>, Refusal> {
+        let start = out
+            .first_chunk_mut::<LONGEST>()
+            .ok_or(Refusal::BufferTooSmall)?;
         if self.octets.used() == 0 {
-            return None;
+            return Ok(None);
         }
-        let high = self.octets.read_octet();
-        let low = self.octets.read_octet();
+        let (high, low) = self.octets.read_pair();
         let n = high as usize * 256 + low as usize;
-        self.octets.read(out, n);
-        Some(n)
+        self.octets.read(start, n);
+        Ok(Some(n))
     }
 }

@@ -2,13 +2,13 @@
 -- Assumes nothing.
 use Rattle.std.proofs.Common.{◌≡◌, ℕ, suc, ◌+◌, ◌*◌, ◌/◌, ◌%◌, ◌<◌, Bool, List, [], ◌∷◌, length, get_or, drop, IfOk, Some, None, Ok, Err, Option, Result, sym, refl, ap, ◌∙◌, arith, rules}
 use Rattle.std.proofs.lemmas.List.FromFn.{length-map-range_with_len}
-use Rattle.std.proofs.lemmas.List.{get_or-drop}
+use Rattle.std.proofs.lemmas.List.{get_or-drop, nil_from_length}
 use Rattle.std.proofs.lemmas.Bool.Decides.{nat_tests}
 use Rattle.checksum.specs.Division.{payload_sum}
 use Rattle.frames.specs.declared.data_type.DataType.TheVariants.{Checked, Plain}
 use Rattle.frames.specs.declared.procedure.Procedure.{Procedure}
 use Rattle.frames.specs.declared.procedure.Procedure.TheVariants.{Initialisation, RateControl, TimeAlignment, ErrorEvent}
-use Rattle.frames.specs.declared.distance.Distance.{Distance}
+use Rattle.payloads.specs.declared.event.ErrorEvent.{ErrorEvent as Event}
 use Rattle.frames.specs.declared.refusal.Refusal.{Refusal}
 use Rattle.frames.specs.Contents as seen
 use Rattle.frames.specs.Contents.{Contents, parsed, sum_field}
@@ -66,17 +66,10 @@ one [] h = absurd (omega arith)
 one (a ∷ []) h = refl
 one (a ∷ b ∷ x) h = absurd (omega arith)
 
-none : (x : List ℕ) → length x ≡ 0 → x ≡ []
-none [] h = refl
-none (a ∷ x) h = absurd (omega arith)
-
-ok_from : {A : Type 0} (x y : A) → ◌≡◌ {A = Result A Refusal} (Ok x) (Ok y) → x ≡ y
-ok_from x y e = cc
-
 shift_from : (a y : ℕ) → shift_of a ≡ Ok y → y ≡ a
 shift_from a y e = grind (arith, nat_tests)
 
-event_from : (a : ℕ) (y : Distance × ℕ) → a < 256 → event_of a ≡ Ok y → distance_code y.0 * 64 + y.1 ≡ a
+event_from : (a : ℕ) (y : Event) → a < 256 → event_of a ≡ Ok y → distance_code y.distance * 64 + y.cause ≡ a
 event_from a y h e = search rules
 
 rate-packed : (x : List ℕ) → ((k : ℕ) → get_or x k 0 < 256) → get_or x 0 0 / 64 ≡ 0 → PaddingZero x → length x ≡ 1 + octets_for (count_in x) → rate_payload (marks_at (count_in x) (drop 1 x)) ≡ x
@@ -94,12 +87,15 @@ question_exact : (o : List ℕ) (m : Message) (n v : ℕ) (q : Procedure) (c p :
 question_exact o m n v Initialisation c p x by e t z =
     let i = opened_from v c x (Ok (link n x)) m t in
     let f = e ∙ ap (λ (w : ℕ). Ok (seen.question n w Initialisation c p x)) i.0 in
-    ap sent (sym (ok_from (link n x) m i.2)) ∙ question_built o n Initialisation c p x by f i.1
+    let r = i.2 in
+    let k : link n x ≡ m = cc in
+    ap sent (sym k) ∙ question_built o n Initialisation c p x by f i.1
 question_exact o m n v RateControl c p x by e t z =
     let j = mapped_from (rate n) (rate_in v c x) m t in
     let i = opened_from v c x (marks_in x) j.0 j.1 in
     let f = e ∙ ap (λ (w : ℕ). Ok (seen.question n w RateControl c p x)) i.0 in
-    let b = ok_from (marks_at (count_in x) (drop 1 x)) j.0 (within_from (1 + octets_for (count_in x)) x (Ok (marks_at (count_in x) (drop 1 x))) j.0 i.2) in
+    let r = within_from (1 + octets_for (count_in x)) x (Ok (marks_at (count_in x) (drop 1 x))) j.0 i.2 in
+    let b : marks_at (count_in x) (drop 1 x) ≡ j.0 = cc in
     let d = question_bytes o n v RateControl c p x by e in
     let bx : (k : ℕ) → get_or x k 0 < 256 = λ k. rw d (rw get_or-drop (by (4 + k))) in
     ap sent (sym j.2)
@@ -116,7 +112,7 @@ question_exact o m n v TimeAlignment c p x by e t z =
     ∙ ap (question_frame 2 n) (sym (one x z))
     ∙ question_built o n TimeAlignment c p x by f i.1
 question_exact o m n v ErrorEvent c p x by e t z =
-    let j = mapped_from (λ (d : Distance × ℕ). event n d.0 d.1) (event_in v c x) m t in
+    let j = mapped_from (λ (d : Event). event n d.distance d.cause) (event_in v c x) m t in
     let i = opened_from v c x (within 1 x (event_of (get_or x 0 0))) j.0 j.1 in
     let f = e ∙ ap (λ (w : ℕ). Ok (seen.question n w ErrorEvent c p x)) i.0 in
     let d = question_bytes o n v ErrorEvent c p x by e in
@@ -141,12 +137,13 @@ built_from o m (seen.ack n v q p x) by e t z =
     let j = mapped_from (λ (u : Unit {0}). ack q n) (ack_in v x) m t in
     let i = versioned_from v (within 0 x (Ok tt)) j.0 j.1 in
     let f = e ∙ ap (λ (w : ℕ). Ok (seen.ack n w q p x)) i.0 in
-    ap sent (sym j.2) ∙ ap (spared (228 + n) (code_of q)) (sym (none x z.1)) ∙ ack_built o n q p x by f z.0
+    ap sent (sym j.2) ∙ ap (spared (228 + n) (code_of q)) (sym (nil_from_length x z.1)) ∙ ack_built o n q p x by f z.0
 built_from o m (seen.nack n v q p x) by e t z =
     let j = mapped_from (nack q n) (nack_in v x) m t in
     let i = versioned_from v (within 1 x (Ok (get_or x 0 0 / 4))) j.0 j.1 in
     let f = e ∙ ap (λ (w : ℕ). Ok (seen.nack n w q p x)) i.0 in
-    let y = ok_from (get_or x 0 0 / 4) j.0 (within_from 1 x (Ok (get_or x 0 0 / 4)) j.0 i.1) in
+    let r = within_from 1 x (Ok (get_or x 0 0 / 4)) j.0 i.1 in
+    let y : get_or x 0 0 / 4 ≡ j.0 = cc in
     let s : j.0 * 4 ≡ get_or x 0 0 = omega (arith, y, z.1) in
     ap sent (sym j.2)
     ∙ ap (λ (k : ℕ). spared (232 + n) (code_of q) (k ∷ [])) s

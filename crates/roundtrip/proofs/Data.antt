@@ -14,7 +14,7 @@ use Rattle.frames.specs.Contents as seen
 use Rattle.frames.specs.Extent.{octets_for}
 use Rattle.frames.specs.Joined.{fitting}
 use Rattle.building.specs.UserData.{user_frame, user_data, padded, high_bits}
-use Rattle.frames.specs.declared.distance.Distance.{Distance}
+use Rattle.payloads.specs.declared.event.ErrorEvent.{ErrorEvent as Event}
 use Rattle.payloads.specs.Checks.{summed}
 use Rattle.payloads.specs.Payloads.{rate_in, alignment_in, event_in, ack_in, nack_in}
 use Rattle.roundtrip.specs.Messages.{user, link, rate, alignment, event, ack, nack, told, read_on, heard}
@@ -77,7 +77,7 @@ fields_told o (seen.question m v TimeAlignment s p y) t n f i x by e h =
     let w = mapped_from (alignment m) (alignment_in v s y) (user t n f i x) h in
     absurd (let z : ◌≡◌ {A = ℕ} 0 1 = cc w.2 in omega arith)
 fields_told o (seen.question m v ErrorEvent s p y) t n f i x by e h =
-    let w = mapped_from (λ (d : Distance × ℕ). event m d.0 d.1) (event_in v s y) (user t n f i x) h in
+    let w = mapped_from (λ (d : Event). event m d.distance d.cause) (event_in v s y) (user t n f i x) h in
     absurd (let z : ◌≡◌ {A = ℕ} 0 1 = cc w.2 in omega arith)
 fields_told o (seen.ack m v q p y) t n f i x by e h =
     let w = mapped_from (λ (z : Unit {0}). ack q m) (ack_in v y) (user t n f i x) h in

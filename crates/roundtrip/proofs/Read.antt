@@ -9,6 +9,7 @@ use Rattle.frames.specs.declared.data_type.DataType.TheVariants.{Checked, Plain}
 use Rattle.frames.specs.declared.procedure.Procedure.{Procedure}
 use Rattle.frames.specs.declared.procedure.Procedure.TheVariants.{Initialisation, RateControl, TimeAlignment, ErrorEvent}
 use Rattle.frames.specs.declared.distance.Distance.{Distance}
+use Rattle.payloads.specs.declared.event.ErrorEvent.{ErrorEvent as Event}
 use Rattle.frames.specs.declared.distance.Distance.TheVariants.{Here, Beyond, FarBeyond}
 use Rattle.frames.specs.declared.refusal.Refusal.{Refusal}
 use Rattle.frames.specs.declared.refusal.Refusal.TheVariants.{PayloadChecksum}
@@ -62,7 +63,7 @@ marks-told b h =
     let m = marks_read b in
     simp (c, l, m) (search rules)
 
-event_octet : (d : Distance) (c : ℕ) → c < 64 → event_of (distance_code d * 64 + c) ≡ Ok (d, c)
+event_octet : (d : Distance) (c : ℕ) → c < 64 → event_of (distance_code d * 64 + c) ≡ Ok (record { distance = d; cause = c })
 event_octet Here c h = grind (arith, nat_tests)
 event_octet Beyond c h = grind (arith, nat_tests)
 event_octet FarBeyond c h = grind (arith, nat_tests)
@@ -71,7 +72,7 @@ event-told : (n : ℕ) (d : Distance) (c : ℕ) → n < 4 → c < 64 → told (e
 event-told n d c hn hc =
     let p = (distance_code d * 64 + c) ∷ [] in
     ap read_on (question_read ErrorEvent n p hn (omega arith))
-    ∙ ap (mapped (λ (e : Distance × ℕ). event n e.0 e.1)) (opened_same p (event_of (distance_code d * 64 + c)) ∙ event_octet d c hc)
+    ∙ ap (mapped (λ (e : Event). event n e.distance e.cause)) (opened_same p (event_of (distance_code d * 64 + c)) ∙ event_octet d c hc)
 
 pub built_is_read : BuiltIsRead
 built_is_read (user Checked n f i x) v l =

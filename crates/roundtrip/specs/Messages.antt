@@ -35,7 +35,7 @@ abbrev pub asked : Procedure → (number version checksum : ℕ) → List ℕ �
 asked Initialisation n v c x = opened v c x (Ok (link n x))
 asked RateControl n v c x = mapped (rate n) (rate_in v c x)
 asked TimeAlignment n v c x = mapped (alignment n) (alignment_in v c x)
-asked ErrorEvent n v c x = mapped (λ e. event n e.0 e.1) (event_in v c x)
+asked ErrorEvent n v c x = mapped (λ e. event n e.distance e.cause) (event_in v c x)
 
 abbrev pub heard : Contents → Result Message Refusal
 heard (seen.user_data t n f i c p x) = mapped (λ _. user t n f i x) (summed c x)

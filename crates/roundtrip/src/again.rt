@@ -8,7 +8,7 @@ use building::answer::{build_ack, build_nack};
 use building::question::{build_alignment, build_error_event, build_question};
 use building::rate::build_rate;
 use building::user_data::build_user_data;
-use frames::frame::{Answer, Frame, Question, UserData};
+use frames::frame::{AckNack, Answer, Frame, Question, UserData};
 use frames::number::Number;
 use frames::octets::Octets;
 use frames::procedure::Procedure;
@@ -47,22 +47,21 @@ fn question_again(question: Question<'_>) -> Result<Octets, Refusal>
     }
 }
 
-fn ack_again(answer: Answer<'_>) -> Result<Octets, Refusal>
+fn answer_again(answer: Answer<'_>) -> Result<Octets, Refusal>
     requires { answer.number < 4 }
-    ensures { result ≡ mapped sent (heard (content (Frame.Ack answer.entry))) }
+    ensures { result ≡ mapped sent (heard (content (Frame.Answer answer.entry))) }
 {
     let number = Number::new(answer.number)?;
-    read_ack(answer)?;
-    Ok(build_ack(answer.procedure, number))
-}
-
-fn nack_again(answer: Answer<'_>) -> Result<Octets, Refusal>
-    requires { answer.number < 4 }
-    ensures { result ≡ mapped sent (heard (content (Frame.Nack answer.entry))) }
-{
-    let number = Number::new(answer.number)?;
-    let cause = read_nack(answer)?;
-    Ok(build_nack(answer.procedure, number, cause))
+    match answer.ack_nack {
+        AckNack::Ack => {
+            read_ack(answer)?;
+            Ok(build_ack(answer.procedure, number))
+        }
+        AckNack::Nack => {
+            let cause = read_nack(answer)?;
+            Ok(build_nack(answer.procedure, number, cause))
+        }
+    }
 }
 
 pub(crate) fn build_again(octets: &[u8]) -> Result<Octets, Refusal>
@@ -71,7 +70,6 @@ pub(crate) fn build_again(octets: &[u8]) -> Result<Octets, Refusal>
     match read(octets)? {
         Frame::UserData(user_data) => data_again(user_data),
         Frame::Question(question) => question_again(question),
-        Frame::Ack(answer) => ack_again(answer),
-        Frame::Nack(answer) => nack_again(answer),
+        Frame::Answer(answer) => answer_again(answer),
     }
 }

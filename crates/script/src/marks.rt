@@ -5,6 +5,10 @@ ghost use Rattle.script.specs.Marks.{is_mark, bars, marks_in};
 
 use crate::unclear::Unclear;
 
+// How many marks a request has. A number of the caller's own would ask more of it: `map` wants an array that is known to fit in memory.
+// It is said here once more, as `script` uses no library and knows nothing of frames: a caller that hands the marks on has an array of this very type.
+pub const MARKS: usize = 63;
+
 fn is_mark(byte: u8) -> bool
     ensures { result ≡ is_mark byte }
 {
@@ -17,17 +21,17 @@ fn all_marks(word: &[u8]) -> bool
     word.iter().all(|byte| is_mark(*byte))
 }
 
-fn bars_of(marks: [u8; 63]) -> [bool; 63]
+fn bars_of(marks: [u8; MARKS]) -> [bool; MARKS]
     ensures { result ≡ map bars marks }
 {
     marks.map(|mark| mark == b'1')
 }
 
-// 63 marks from RFCI 0 on: 1 bars, 0 allows.
-pub fn read_marks(word: &[u8]) -> Result<[bool; 63], Unclear>
+// Marks from RFCI 0 on: 1 bars, 0 allows.
+pub fn read_marks(word: &[u8]) -> Result<[bool; MARKS], Unclear>
     ensures { result ≡ marks_in word.now }
 {
-    match <[u8; 63]>::try_from(word) {
+    match <[u8; MARKS]>::try_from(word) {
         Ok(marks) if all_marks(word) => Ok(bars_of(marks)),
         _ => Err(Unclear::Value),
     }

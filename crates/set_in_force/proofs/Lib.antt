@@ -1,3 +1,4 @@
 pub mod Subflows
 pub mod Marking
 pub mod Highest
+pub mod There

@@ -8,6 +8,8 @@ use Rattle.std.proofs.lemmas.List.Quantifiers.{position-Some}
 use Rattle.sets.specs.Rows.{Row, allowed_as, marked_at, fresh, fits, sound}
 use Rattle.set_in_force.specs.Looks.{index_of}
 use Rattle.sets.specs.declared.table.Table.{Table}
+use Rattle.sets.specs.Openings.{Values}
+use Rattle.sets.specs.Contents.{Contents}
 use Rattle.sets.specs.Tables.{rows, contents, SoundTable}
 use Rattle.set_in_force.specs.Marks.{marked, marked_in}
 
@@ -74,11 +76,13 @@ marked_past n b rs e =
     let l : length rs ≤ position_or_len (λ (r : Row). eqb r.rfci n) rs = grind (arith, nat_tests) in
     past n b rs l
 
--- the same of a table that was marked in one place, or in none
-pub table_marked : (t u : Table) (n : ℕ) (b : Bool) (i : ℕ) → SoundTable t → Some i ≡ index_of n (rows t) → rows u ≡ marked_at i b (rows t) → u.opening ≡ t.opening → contents u ≡ marked_in n b (contents t)
-table_marked t u n b i s e r o =
-    let m : rows u ≡ marked n b (rows t) = r ∙ marked_found _ n _ b (rows t) i s.sound e in
-    cc
+-- the same of a table that was marked in one place, or in none, and of the set that it says
+pub table_marked : (t : Table) (o : Values) (us rs : List Row) (c : Contents) (n : ℕ) (b : Bool) (i : ℕ) → us ≡ marked_at i b (rows t) → o ≡ t.opening → Some i ≡ index_of n rs → rs ≡ rows t → SoundTable t → contents t ≡ c → record { opening = o; combinations = us } ≡ marked_in n b c
+table_marked t o us rs c n b i r p e f s v =
+    let x : Some i ≡ index_of n (rows t) = e ∙ ap (index_of n) f in
+    let m : us ≡ marked n b (rows t) = r ∙ marked_found _ n _ b (rows t) i s.sound x in
+    let k : record { opening = o; combinations = us } ≡ marked_in n b (contents t) = cc in
+    k ∙ ap (marked_in n b) v
 
 pub table_past : (t : Table) (n : ℕ) (b : Bool) → None ≡ index_of n (rows t) → contents t ≡ marked_in n b (contents t)
 table_past t n b e =

@@ -65,6 +65,7 @@ impl InForce {
     }
 
     // The combination with this RFCI is allowed or barred; where the set has none, nothing changes.
+    #[tactic(auto, using(crate::proofs::Marking::table_past))]
     pub fn mark(&mut self, rfci: u8, allowed: bool)
         ensures { self.new ≡ marked_in rfci allowed self.old }
     {

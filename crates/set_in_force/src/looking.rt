@@ -1,5 +1,5 @@
 // Combinations of the set in force, by RFCI.
-ghost use Rattle.std.specs.Prelude.{◌≡◌, ◌≤◌, length, IfSome, slice_get, Some};
+ghost use Rattle.std.specs.Prelude.{◌≡◌, ◌≤◌, IfSome, slice_get, Some};
 ghost use Rattle.sets.specs.Rows.{bits};
 ghost use Rattle.set_in_force.specs.Looks.{told, looked_up, rfci_of, highest_of};
 
@@ -7,11 +7,10 @@ use super::in_force::{InForce, index_in};
 use super::place::Found;
 use super::placing::place_all;
 use sets::combination::Combination;
-use sets::limits::{MOST_BITS, MOST_SUBFLOWS};
+use sets::limits::MOST_BITS;
 
 // What is to know of the combination at a place.
 fn tell(index: usize, combination: &Combination) -> Found
-    requires few { length combination.now.sizes ≤ MOST_SUBFLOWS }
     requires bits { bits combination.now.sizes ≤ MOST_BITS }
     ensures is { Some result ≡ told index (Some combination.now) }
     ensures few { result.bits ≤ MOST_BITS }
@@ -34,6 +33,7 @@ fn highest_in(rows: &[Combination]) -> u8
 
 impl InForce {
     // What is to know of the combination with this RFCI.
+    #[tactic(auto, using(crate::proofs::There::told_there, crate::proofs::There::bits_there))]
     pub fn look_up(&self, rfci: u8) -> Option<Found>
         ensures is { result ≡ looked_up rfci self.now.combinations }
         ensures few { IfSome result (λ f. f.bits ≤ 4000) }

@@ -3,6 +3,7 @@ ghost use Rattle.std.specs.Prelude.{◌≡◌, ◌≤◌, length, slice_get};
 
 use frames::row::{Blank, Row};
 use sets::limits::MOST_SUBFLOWS;
+use std::fmt;
 use std::marker::Model;
 
 // A subflow: its first bit, and how many it has.
@@ -20,6 +21,18 @@ impl Blank for Place {
 
     fn blank() -> Place {
         Place { first: 0, bits: 0 }
+    }
+}
+
+// The first bit and the length, in decimal digits.
+impl fmt::Display for Place {
+    ghost use Rattle.std.specs.Prelude.{Some};
+    ghost use Rattle.set_in_force.specs.Places.{place_text};
+
+    ghost output = { λ place. Some (place_text place) };
+
+    fn fmt<W: fmt::Write>(&self, f: &mut fmt::Formatter<W>) -> fmt::Result {
+        write!(f, "{}+{}", self.first, self.bits)
     }
 }
 

@@ -1,9 +1,10 @@
 -- The table inside a set, after one combination more and after one mark changed.
 -- Assumes nothing.
-use Rattle.std.proofs.Common.{◌≡◌, ℕ, ◌+◌, ◌<◌, ◌≤◌, Bool, [], ◌∷◌, ◌++◌, length, slice_set, slice_get, Ok, Some, ap, ◌∙◌, arith, length-set}
+use Rattle.std.proofs.Common.{◌≡◌, ℕ, ◌<◌, Bool, List, [], ◌∷◌, ◌++◌, length, slice_set, slice_get, Ok, Some, ap, ◌∙◌, arith, length-set}
 use Rattle.std.proofs.lemmas.List.{length_push}
 use Rattle.sets.specs.declared.table.Table.{Table}
 use Rattle.sets.specs.Rows.{Row, allowed_as, sound}
+use Rattle.sets.specs.Openings.{Values}
 use Rattle.sets.specs.Tables.{rows, contents, SoundTable}
 use Rattle.sets.specs.Drafts.{admitted_to}
 use Rattle.sets.proofs.Rows.{marked_set, sound-marked}
@@ -24,22 +25,18 @@ push_sound t r s h =
     record {
       some = s.some;
       few = s.few;
-      kind = s.kind;
       room = omega (arith, a.room);
       sound = sound_push n ti (rows t) r s.sound (fits_from n ti (rows t) r a) a.fresh;
     }
 
-abbrev pub changed : Table → ℕ → Row → Table
-changed t i r = record { opening = t.opening; combinations = slice_set t.combinations i r }
-
-pub allow_sound : (t : Table) (i : ℕ) (b : Bool) (r x : Row) → slice_get t.combinations i ≡ Some x → r ≡ allowed_as b x → SoundTable t → SoundTable (changed t i r)
-allow_sound t i b r x h e s =
-    let n = t.opening.subflows in
-    let ti = t.opening.timed in
+pub allow_sound : (o : Values) (xs rs : List Row) (i : ℕ) (b : Bool) (r x : Row) → rs ≡ slice_set xs i r → slice_get xs i ≡ Some x → r ≡ allowed_as b x → SoundTable (record { opening = o; combinations = xs }) → SoundTable (record { opening = o; combinations = rs })
+allow_sound o xs rs i b r x u h e s =
+    let n = o.subflows in
+    let ti = o.timed in
+    let l = ap length u ∙ length-set xs i r in
     record {
       some = s.some;
       few = s.few;
-      kind = s.kind;
-      room = omega (arith, length-set t.combinations i r, s.room);
-      sound = ap (sound n ti) (marked_set i b t.combinations r x h e) ∙ sound-marked n ti b i (rows t) ∙ s.sound;
+      room = omega (arith, s.room);
+      sound = ap (sound n ti) (u ∙ marked_set i b xs r x h e) ∙ sound-marked n ti b i xs ∙ s.sound;
     }

@@ -1,7 +1,8 @@
 -- The values that a draft is opened with.
-use Rattle.std.specs.Prelude.{ℕ, Bool, false, cond, ◌&&◌, Ok, Err, Result, ◌==◌, nat_le}
+use Rattle.std.specs.Prelude.{ℕ, Bool, false, cond, ◌&&◌, Ok, Err, Result, nat_le}
 use Rattle.frames.specs.declared.data_type.DataType.{DataType}
-use Rattle.frames.specs.declared.data_type.DataType.TheVariants.{Checked, Plain}
+use Rattle.frames.specs.declared.data_type.DataType.TheVariants.{Checked}
+use Rattle.frames.specs.DataTypes.{data_type_in}
 use Rattle.frames.specs.declared.refusal.Refusal.{Refusal}
 use Rattle.frames.specs.declared.refusal.Refusal.TheVariants.{Dimensions}
 
@@ -9,16 +10,17 @@ use Rattle.frames.specs.declared.refusal.Refusal.TheVariants.{Dimensions}
 pub record Values : Type 0 where
   pub subflows : ℕ
   pub timed : Bool
-  pub kind : ℕ
+  pub data_type : DataType
 
--- the type of user data with this number
-abbrev pub data_type_of : ℕ → DataType
-data_type_of kind = cond (kind == 0) Checked Plain
+-- with a type of user data, if there is one
+abbrev pub typed : ℕ → Bool → Result DataType Refusal → Result Values Refusal
+typed n ti (Ok t) = Ok (record { subflows = n; timed = ti; data_type = t })
+typed n ti (Err e) = Err Dimensions
 
 -- N is 1 to 7, the data PDU type 0 or 1
 abbrev pub opening_in : ℕ → Bool → ℕ → Result Values Refusal
-opening_in n ti type = cond (nat_le 1 n && (nat_le n 7 && nat_le type 1)) (Ok (record { subflows = n; timed = ti; kind = type })) (Err Dimensions)
+opening_in n ti type = cond (nat_le 1 n && nat_le n 7) (typed n ti (data_type_in type)) (Err Dimensions)
 
 -- one subflow, no IPTIs, data PDU type 0
 abbrev pub smallest : Values
-smallest = record { subflows = 1; timed = false; kind = 0 }
+smallest = record { subflows = 1; timed = false; data_type = Checked }

@@ -47,11 +47,10 @@ sound n ti (r ∷ rs) = fits n ti r && (fresh r.rfci rs && sound n ti rs)
 unfoldable pub free : List Row → Bool
 free rs = list_all (λ r. r.allowed) rs
 
--- what holds of a set: N 1 to 7, data PDU type 0 or 1, 1 to 32 rows, and they are sound
-pub record Sound (n : ℕ) (ti : Bool) (type : ℕ) (rs : List Row) : Type 0 where
+-- what holds of a set: N 1 to 7, 1 to 32 rows, and they are sound
+pub record Sound (n : ℕ) (ti : Bool) (rs : List Row) : Type 0 where
   pub some : 1 ≤ n
   pub few : n ≤ 7
-  pub kind : type ≤ 1
   pub rows : 1 ≤ length rs
   pub room : length rs ≤ 32
   pub sound : sound n ti rs ≡ true

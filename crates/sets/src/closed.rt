@@ -1,8 +1,7 @@
 // Drafts closed into sets. What links and data rely on holds of every set, since closing a draft is the only way to one.
-ghost use Rattle.std.specs.Prelude.{◌≡◌, true};
-ghost use Rattle.sets.specs.Rows.{free};
-ghost use Rattle.sets.specs.Closing.{closed_by, placed_by};
-ghost use Rattle.sets.specs.Contents.{SoundSet};
+ghost use Rattle.std.specs.Prelude.{◌≡◌};
+ghost use Rattle.sets.specs.Closing.{closed_by, closing, placed_by};
+ghost use Rattle.sets.specs.Contents.{ClosedSet};
 ghost use Rattle.sets.specs.Tables.{contents, SoundTable};
 
 use super::combination::Combination;
@@ -26,16 +25,15 @@ pub struct Set {
 }
 
 impl Model for Set {
-    ghost use Rattle.std.specs.Prelude.{◌≡◌, ◌≤◌, true, length};
-    ghost use Rattle.sets.specs.Rows.{free};
+    ghost use Rattle.std.specs.Prelude.{◌≤◌, length};
     ghost use Rattle.sets.specs.Contents.{Contents};
-    ghost use Rattle.sets.specs.Tables.{rows, contents, table_of, SoundTable};
+    ghost use Rattle.sets.specs.Tables.{rows, contents, table_of, FreeTable};
 
     ghost Value = { Contents };
 
     ghost view = { λ s. contents s.table };
 
-    ghost invariant = { λ s. SoundTable s.table × (1 ≤ length (rows s.table)) × (free (rows s.table) ≡ true) };
+    ghost invariant = { λ s. FreeTable s.table × (1 ≤ length (rows s.table)) };
 
     ghost inverse = { λ c. record { table = table_of c } };
 }
@@ -50,8 +48,7 @@ impl Set {
     // The combinations, the first one first.
     pub fn rows(&self) -> &[Combination]
         ensures rows { result.now ≡ self.now.combinations }
-        ensures sound { SoundSet self.now }
-        ensures free { free self.now.combinations ≡ true }
+        ensures closed { ClosedSet self.now }
     {
         self.table.rows()
     }
@@ -60,8 +57,7 @@ impl Set {
     pub fn into_table(self) -> Table
         ensures is { contents result ≡ self }
         ensures sound { SoundTable result }
-        ensures closed { SoundSet self }
-        ensures free { free self.combinations ≡ true }
+        ensures closed { ClosedSet self }
     {
         let Set { table } = self;
         table
@@ -69,7 +65,7 @@ impl Set {
 }
 
 impl Draft {
-    // The closed set goes into `place`, which is lent, so that no table moves in an answer that may refuse: a form asked for.
+    // The closed set goes into `place`, which is lent, so that no table moves in an answer that may refuse.
     // Where the draft is empty, `place` stays as it was.
     pub fn close(self, place: &mut Option<Set>) -> Result<(), Unclosed>
         ensures answer { result ≡ closed_by self }
@@ -84,5 +80,15 @@ impl Draft {
         }
         *place = Some(Set { table });
         Ok(())
+    }
+
+    // The same of a copy, for whoever keeps the draft until it is closed: an empty one need not be opened again.
+    pub fn close_copy(&self, place: &mut Option<Set>) -> Result<(), Refusal>
+        ensures answer { result ≡ closing self.now }
+        ensures place { place.new ≡ placed_by self.now place.old }
+    {
+        self.copied()
+            .close(place)
+            .map_err(|unclosed| unclosed.refusal)
     }
 }

@@ -1,8 +1,8 @@
 // A set that is being made. It is moved by closing it.
 ghost use Rattle.std.specs.Prelude.{◌≡◌, ◌≤◌, true, length, if◌then◌else◌, Ok};
-ghost use Rattle.sets.specs.Rows.{bits, fresh, sound, free, entered};
-ghost use Rattle.sets.specs.Tables.{rows, contents, SoundTable};
-ghost use Rattle.sets.specs.Contents.{opened};
+ghost use Rattle.sets.specs.Rows.{bits, fresh, entered};
+ghost use Rattle.sets.specs.Tables.{contents, FreeTable};
+ghost use Rattle.sets.specs.Contents.{opened, SoundDraft};
 ghost use Rattle.sets.specs.Drafts.{sized, admitted_to, added};
 
 use super::combination::Combination;
@@ -18,16 +18,14 @@ pub struct Draft {
 }
 
 impl Model for Draft {
-    ghost use Rattle.std.specs.Prelude.{◌≡◌, true};
-    ghost use Rattle.sets.specs.Rows.{free};
     ghost use Rattle.sets.specs.Contents.{Contents};
-    ghost use Rattle.sets.specs.Tables.{rows, contents, SoundTable};
+    ghost use Rattle.sets.specs.Tables.{contents, FreeTable};
 
     ghost Value = { Contents };
 
     ghost view = { λ d. contents d.table };
 
-    ghost invariant = { λ d. SoundTable d.table × (free (rows d.table) ≡ true) };
+    ghost invariant = { λ d. FreeTable d.table };
 }
 
 // The bits of sizes, at most seven of them.
@@ -83,9 +81,7 @@ impl Draft {
     // The combinations so far, the first one first.
     pub fn rows(&self) -> &[Combination]
         ensures rows { result.now ≡ self.now.combinations }
-        ensures room { length self.now.combinations ≤ 32 }
-        ensures sound { sound self.now.opening.subflows self.now.opening.timed self.now.combinations ≡ true }
-        ensures free { free self.now.combinations ≡ true }
+        ensures sound { SoundDraft self.now }
     {
         self.table.rows()
     }
@@ -100,8 +96,7 @@ impl Draft {
     // The table of the draft, which is no draft any more.
     pub(crate) fn into_table(self) -> Table
         ensures is { contents result ≡ self }
-        ensures sound { SoundTable result }
-        ensures free { free (rows result) ≡ true }
+        ensures free { FreeTable result }
     {
         self.table
     }

@@ -23,7 +23,8 @@ impl Table {
         ensures is { contents result ≡ opened opening }
         ensures sound { SoundTable result }
     {
-        opening.ranged();
+        // that N is 1 to 7 is told by whoever is asked for it
+        let _ = opening.subflows();
         Table {
             opening,
             combinations: Row::new(),
@@ -54,6 +55,7 @@ impl Table {
     }
 
     // The combination at a place is allowed or barred; past the last nothing changes.
+    #[tactic(auto, using(crate::proofs::Rows::marked_set, crate::proofs::Rows::marked_past))]
     pub fn allow(&mut self, index: usize, allowed: bool)
         ensures rows { rows self.new ≡ marked_at index allowed (rows self.old) }
         ensures opening { self.new.opening ≡ self.old.opening }

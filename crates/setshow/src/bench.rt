@@ -7,6 +7,7 @@ use sets::draft::Draft;
 use sets::opening::Opening;
 
 // A draft, and the set that was closed last.
+// A session holds a draft too: what is common is one call of `sets` for each order. The complaint where there is none, and what becomes of the set, are the program's own: a common bench would be no plainer.
 #[derive(Drop)]
 pub struct Bench {
     draft: Option<Draft>,
@@ -41,15 +42,13 @@ impl Bench {
         }
     }
 
-    // An empty draft comes back as its opening values, and is opened again from them.
+    // An empty draft stays open.
     fn close(&mut self) -> Result<Answer, Complaint> {
-        let draft = self.draft.take().ok_or(Complaint::NoDraft)?;
-        let mut place: Option<Set> = None;
-        if let Err(back) = draft.close(&mut place) {
-            self.draft = Some(Draft::open(back.opening));
-            return Err(Complaint::Refused(back.refusal));
-        }
-        let set = place.ok_or(Complaint::NoDraft)?;
+        let draft = self.draft.as_ref().ok_or(Complaint::NoDraft)?;
+        let mut place = None;
+        draft.close_copy(&mut place)?;
+        self.draft = None;
+        let set: Set = place.unwrap();
         let in_force = InForce::from_set(set);
         self.set = Some(in_force);
         Ok(Answer::Closed { set, in_force })

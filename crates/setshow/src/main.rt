@@ -10,15 +10,19 @@ mod bench;
 mod orders;
 mod showing;
 
-use bench::Bench;
-use orders::read_order;
+use bench::{Bench, Complaint};
+use orders::{Misread, read_order};
 use std::io;
 
 fn main(rt: HostRuntime) -> io::Result<()> {
     let mut bench = Bench::new();
     for line in rt.lines(rt.alloc()) {
-        let order = read_order(&rt, line?.as_str())?;
-        match order.and_then(|order| bench.obey(order)) {
+        let answer = match read_order(line?.as_str(), rt.alloc()) {
+            Ok(order) => bench.obey(order),
+            Err(Misread::Unclear) => Err(Complaint::Unclear),
+            Err(Misread::Memory(error)) => return Err(error.into()),
+        };
+        match answer {
             Ok(answer) => print!(rt; "{answer}")?,
             Err(complaint) => println!(rt; "{complaint}")?,
         }

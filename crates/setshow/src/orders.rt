@@ -1,7 +1,8 @@
 // Orders, as they stand in a line.
-use crate::bench::Complaint;
-use std::io;
+use std::alloc::{AllocError, Global};
+use std::num::ParseIntError;
 
+// `draft` and `add` are as in a session, of which this program knows nothing: a common type would tie the two languages together.
 #[derive(Drop)]
 pub enum Order {
     Draft {
@@ -20,29 +21,43 @@ pub enum Order {
     },
 }
 
-// What is no octet is refused like 255.
+// What is no octet is refused as 255 is. An `Option` would be no plainer: only a draft says which of its refusals comes first.
 fn octet(number: u16) -> u8 {
     u8::try_from(number).unwrap_or(u8::MAX)
 }
 
-// The numbers behind the first word of a line; none where one is strange.
-fn numbers(rt: &HostRuntime, line: &str) -> io::Result<Option<Vec<u16>>> {
-    let mut numbers = Vec::new(rt.alloc());
-    for word in line.split_whitespace().skip(1) {
-        let Ok(number) = word.parse::<u16>() else {
-            return Ok(None);
-        };
-        numbers.push(number)?;
-    }
-    Ok(Some(numbers))
+// Why a line gives no order: it is not understood, or there is no memory for what it says.
+#[derive(Debug, Drop)]
+pub enum Misread {
+    Unclear,
+    Memory(AllocError),
 }
 
-// The order in a line, or that there is none.
-pub(crate) fn read_order(rt: &HostRuntime, line: &str) -> io::Result<Result<Order, Complaint>> {
-    let Some(numbers) = numbers(rt, line)? else {
-        return Ok(Err(Complaint::Unclear));
-    };
-    let order = match (line.split_whitespace().next(), numbers.as_slice()) {
+impl From<ParseIntError> for Misread {
+    fn from(_: ParseIntError) -> Misread {
+        Misread::Unclear
+    }
+}
+
+impl From<AllocError> for Misread {
+    fn from(error: AllocError) -> Misread {
+        Misread::Memory(error)
+    }
+}
+
+// The numbers behind the first word of a line.
+fn numbers(line: &str, alloc: Global) -> Result<Vec<u16>, Misread> {
+    let mut numbers = Vec::new(alloc);
+    for word in line.split_whitespace().skip(1) {
+        numbers.push(word.parse()?).map_err(AllocError::from)?;
+    }
+    Ok(numbers)
+}
+
+// The order in a line.
+pub(crate) fn read_order(line: &str, alloc: Global) -> Result<Order, Misread> {
+    let numbers = numbers(line, alloc)?;
+    match (line.split_whitespace().next(), numbers.as_slice()) {
         (Some("draft"), [subflows, timed, data_type]) => Ok(Order::Draft {
             subflows: octet(*subflows),
             timed: *timed != 0,
@@ -51,13 +66,12 @@ pub(crate) fn read_order(rt: &HostRuntime, line: &str) -> io::Result<Result<Orde
         (Some("add"), [rfci, ipti, sizes @ ..]) => Ok(Order::Add {
             rfci: octet(*rfci),
             ipti: octet(*ipti),
-            sizes: Vec::from_slice(rt.alloc(), sizes)?,
+            sizes: Vec::from_slice(alloc, sizes)?,
         }),
         (Some("close"), []) => Ok(Order::Close),
         (Some("find"), sizes) => Ok(Order::Find {
-            sizes: Vec::from_slice(rt.alloc(), sizes)?,
+            sizes: Vec::from_slice(alloc, sizes)?,
         }),
-        _ => Err(Complaint::Unclear),
-    };
-    Ok(order)
+        _ => Err(Misread::Unclear),
+    }
 }

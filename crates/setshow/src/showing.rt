@@ -1,6 +1,7 @@
 // What is shown of an order and of a set.
 use crate::bench::{Answer, Complaint};
 use frames::extent::octets_for;
+use frames::hex::Hex;
 use frames::number::Number;
 use link_building::building::link_count;
 use link_frames::framing::link_frame;
@@ -8,21 +9,6 @@ use set_in_force::in_force::InForce;
 use set_in_force::place::Found;
 use sets::closed::Set;
 use std::fmt;
-
-// Octets in hexadecimal.
-#[derive(Clone, Copy)]
-struct Hex<'a> {
-    octets: &'a [u8],
-}
-
-impl<'a> fmt::Display for Hex<'a> {
-    fn fmt<W: fmt::Write>(&self, f: &mut fmt::Formatter<W>) -> fmt::Result {
-        for octet in self.octets {
-            write!(f, "{octet:02X}")?;
-        }
-        Ok(())
-    }
-}
 
 // The links of a set as frames, one to a line.
 #[derive(Clone, Copy)]
@@ -34,14 +20,8 @@ impl<'a> fmt::Display for Links<'a> {
     fn fmt<W: fmt::Write>(&self, f: &mut fmt::Formatter<W>) -> fmt::Result {
         // k is the number of the link that is asked for and shown: nothing is indexed
         for k in 0..link_count(self.set) {
-            match link_frame(self.set, Number { value: k }) {
-                Ok(frame) => writeln!(
-                    f,
-                    "link {k} {}",
-                    Hex {
-                        octets: frame.as_slice()
-                    }
-                )?,
+            match link_frame(self.set, Number::wrapped(k as u16)) {
+                Ok(frame) => writeln!(f, "link {k} {}", Hex::of(frame.as_slice()))?,
                 Err(refusal) => writeln!(f, "no {refusal}")?,
             }
         }
@@ -60,7 +40,7 @@ impl<'a> fmt::Display for Subflows<'a> {
         let bits = self.found.bits;
         write!(f, "{bits} bits, {} octets:", octets_for(bits as usize))?;
         for place in self.found.places.as_slice() {
-            write!(f, " {}+{}", place.first, place.bits)?;
+            write!(f, " {place}")?;
         }
         Ok(())
     }

@@ -16,6 +16,7 @@ const TABLE: [&[u8]; ROWS] = [
 ];
 
 // The octets of a row, and none past the last one. What each row says of them is right.
+// (d): a row past the end is empty, as the definition says: no worked frame is.
 pub fn worked_frame(row: usize) -> &'static [u8]
     ensures octets { result.now ≡ octets_at row rows }
     ensures table { AllRight rows }

@@ -13,9 +13,7 @@ impl Bearer {
         ensures said { report.new ≡ [] }
     {
         report.clear();
-        let Some(traffic) = &self.traffic else {
-            return Err(Refusal::WrongPhase);
-        };
+        let traffic = self.traffic.as_ref().ok_or(Refusal::WrongPhase)?;
         traffic.set().search(sizes)
     }
 }

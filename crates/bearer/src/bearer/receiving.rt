@@ -36,9 +36,7 @@ impl Bearer {
         ensures told { result ≡ told_of (data_of user.entry) self.old }
         ensures next { self.new ≡ counting (data_of user.entry) result self.old }
     {
-        let Some(traffic) = &mut self.traffic else {
-            return Err(Refusal::UnexpectedPduType);
-        };
+        let traffic = self.traffic.as_mut().ok_or(Refusal::UnexpectedPduType)?;
         traffic.receive(user, self.settings)
     }
 
@@ -49,7 +47,7 @@ impl Bearer {
         let gap = delivery.gap;
         report.note(Happening::Delivered(delivery));
         if gap != 0 {
-            self.tell(Cause { value: 3 }, line, report);
+            self.tell(Cause::FRAME_LOSS, line, report);
         }
     }
 }

@@ -32,9 +32,7 @@ impl Bearer {
         ensures { Did L.waiting (data_sent (L.takes line.old) rfci fqc payload.now self.old) self.new result line.old line.new [] report.new }
     {
         report.clear();
-        let Some(traffic) = &mut self.traffic else {
-            return Err(Refusal::WrongPhase);
-        };
+        let traffic = self.traffic.as_mut().ok_or(Refusal::WrongPhase)?;
         let frame = traffic.frame(rfci, fqc, payload)?;
         offer(line, &frame, report)?;
         traffic.number_on(self.settings.numbering, Numbering::Counted);

@@ -2,7 +2,7 @@
 ghost use Rattle.std.specs.Prelude.{◌≡◌, length};
 ghost use Rattle.bearer.specs.Traffics.{data_of, gap_of, expected_next, fitted, quality_of, judged, counted};
 
-use super::Traffic;
+use super::{FrameNumber, Traffic};
 use crate::settings::{Numbering, Settings};
 use frames::extent::octets_for;
 use frames::frame::UserData;
@@ -10,7 +10,13 @@ use frames::refusal::Refusal;
 use payloads::check::check_user_data;
 use reports::happening::Delivery;
 
-// A payload has the octets of its combination, and at most 4 of spare extension after them.
+// The frame quality of a bad frame.
+const BAD: u8 = 1;
+
+// The most octets of spare extension after user data.
+const MOST_SPARE: usize = 4;
+
+// A payload has the octets of its combination, and at most so many of spare extension after them.
 fn check_length(length: usize, bits: u16) -> Result<(), Refusal>
     ensures { result ≡ fitted length bits }
 {
@@ -18,7 +24,7 @@ fn check_length(length: usize, bits: u16) -> Result<(), Refusal>
     if length < octets {
         return Err(Refusal::TooShort);
     }
-    if length > octets + 4 {
+    if length > octets + MOST_SPARE {
         return Err(Refusal::UnexpectedValue);
     }
     Ok(())
@@ -29,7 +35,7 @@ fn quality(user: UserData<'_>, keep_damaged: bool) -> Result<u8, Refusal>
     ensures { result ≡ quality_of keep_damaged (data_of user.entry) }
 {
     match check_user_data(user) {
-        Err(_) if keep_damaged => Ok(1),
+        Err(_) if keep_damaged => Ok(BAD),
         checked => checked.map(|_| user.header.fqc),
     }
 }
@@ -42,8 +48,8 @@ impl Traffic {
     {
         match numbering {
             Numbering::Counted => {
-                let gap = (number % 16 + 16 - self.expected) % 16;
-                self.expected = (number % 16 + 1) % 16;
+                let gap = (number % 16 + 16 - self.expected.value()) % 16;
+                self.expected = FrameNumber::wrapped(number as u16 + 1);
                 gap
             }
             Numbering::Timed => 0,
@@ -62,9 +68,10 @@ impl Traffic {
         if user.header.data_type != self.set.opening().data_type() {
             return Err(Refusal::UnexpectedPduType);
         }
-        let Some(found) = self.set.look_up(user.header.rfci) else {
-            return Err(Refusal::UnknownRfci);
-        };
+        let found = self
+            .set
+            .look_up(user.header.rfci)
+            .ok_or(Refusal::UnknownRfci)?;
         check_length(user.payload.len(), found.bits)?;
         let fqc = quality(user, settings.keep_damaged)?;
         Ok(Delivery {

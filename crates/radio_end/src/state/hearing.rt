@@ -1,12 +1,13 @@
 // Answers to the questions of the radio end.
 ghost use Rattle.std.specs.Prelude.{◌≡◌, []};
+ghost use Rattle.frames.specs.Contents.{reply};
 ghost use Rattle.radio_end.specs.Steps.{awaited, links_heard, heard, answered};
 ghost use Rattle.radio_end.specs.Runs.{Does};
 
 use super::RadioEnd;
 use crate::received::Received;
-use exchange::answer::AckNack;
 use exchange::slots::hear_in;
+use frames::cause::Cause;
 use frames::frame::Answer;
 use frames::procedure::Procedure;
 use frames::refusal::Refusal;
@@ -17,11 +18,10 @@ impl<L: Line> RadioEnd<L> {
     // An answer goes to the exchange of its procedure.
     pub(super) fn answer(
         &mut self,
-        sort: AckNack,
         answer: Answer<'_>,
         report: &mut Report,
     ) -> Result<Received, Refusal>
-        ensures { Does L.waiting (answered (L.takes self.old.line) sort answer.entry.version answer.entry.payload.now answer.entry.number answer.entry.procedure self.old.state) self.old result [] report.new self.new }
+        ensures { Does L.waiting (answered (L.takes self.old.line) (reply answer.entry) self.old.state) self.old result [] report.new self.new }
     {
         if !self.awaits(answer.procedure) {
             return self
@@ -29,10 +29,8 @@ impl<L: Line> RadioEnd<L> {
                 .object(Refusal::UnexpectedProcedure, &mut self.line, report);
         }
         report.clear();
-        match self.hear(sort, answer, report)? {
-            None => Ok(Received::Ack),
-            Some(cause) => Ok(Received::Nack(cause)),
-        }
+        let cause = self.hear(answer, report)?;
+        Ok(cause.map_or(Received::Ack, |cause| Received::Nack(cause)))
     }
 
     // Whether an answer of this procedure is waited for: an error event has none.
@@ -41,35 +39,28 @@ impl<L: Line> RadioEnd<L> {
     {
         match procedure {
             Procedure::Initialisation => self.links.is_some(),
-            Procedure::RateControl => self.rate.is_some(),
-            Procedure::TimeAlignment => self.alignment.is_some(),
+            Procedure::RateControl => self.rate.running.is_some(),
+            Procedure::TimeAlignment => self.alignment.running.is_some(),
             Procedure::ErrorEvent => false,
         }
     }
 
     // The cause of a Nack, none for an Ack. The match is over the frame's own enum: each slot has a type of its own, so a table of calls would be no plainer.
-    fn hear(
-        &mut self,
-        sort: AckNack,
-        answer: Answer<'_>,
-        report: &mut Report,
-    ) -> Result<Option<u8>, Refusal>
-        ensures { Does L.waiting (heard (L.takes self.old.line) sort answer.entry.version answer.entry.payload.now answer.entry.number answer.entry.procedure self.old.state) self.old result report.old report.new self.new }
+    fn hear(&mut self, answer: Answer<'_>, report: &mut Report) -> Result<Option<Cause>, Refusal>
+        ensures { Does L.waiting (heard (L.takes self.old.line) (reply answer.entry) answer.entry.procedure self.old.state) self.old result report.old report.new self.new }
     {
         let settings = self.bearer.settings();
         match answer.procedure {
-            Procedure::Initialisation => self.hear_links(sort, answer, report),
+            Procedure::Initialisation => self.hear_links(answer, report),
             Procedure::RateControl => hear_in(
-                &mut self.rate,
-                sort,
+                &mut self.rate.running,
                 answer,
                 settings.rate,
                 &mut self.line,
                 report,
             ),
             Procedure::TimeAlignment => hear_in(
-                &mut self.alignment,
-                sort,
+                &mut self.alignment.running,
                 answer,
                 settings.alignment,
                 &mut self.line,
@@ -82,25 +73,15 @@ impl<L: Line> RadioEnd<L> {
     // The set that is offered comes into force once the Ack of its last link came.
     fn hear_links(
         &mut self,
-        sort: AckNack,
         answer: Answer<'_>,
         report: &mut Report,
-    ) -> Result<Option<u8>, Refusal>
-        ensures { Does L.waiting (links_heard (L.takes self.old.line) sort answer.entry.version answer.entry.payload.now answer.entry.number self.old.state) self.old result report.old report.new self.new }
+    ) -> Result<Option<Cause>, Refusal>
+        ensures { Does L.waiting (links_heard (L.takes self.old.line) (reply answer.entry) self.old.state) self.old result report.old report.new self.new }
     {
-        let Some(running) = &self.links else {
-            return Err(Refusal::UnexpectedProcedure);
-        };
+        let running = self.links.as_ref().ok_or(Refusal::UnexpectedProcedure)?;
         let set = *running.question().set();
         let limits = self.bearer.settings().initialisation;
-        let cause = hear_in(
-            &mut self.links,
-            sort,
-            answer,
-            limits,
-            &mut self.line,
-            report,
-        )?;
+        let cause = hear_in(&mut self.links, answer, limits, &mut self.line, report)?;
         if cause.is_none() && self.links.is_none() {
             self.bearer.enforce(set);
         }

@@ -6,7 +6,7 @@ ghost use Rattle.radio_end.specs.Law.{RunsHold};
 use super::RadioEnd;
 use bearer::bearer::Bearer;
 use bearer::settings::Settings;
-use frames::number::Number;
+use exchange::numbered::Numbered;
 use lines::line::Line;
 
 impl<L: Line> RadioEnd<L> {
@@ -20,10 +20,8 @@ impl<L: Line> RadioEnd<L> {
         RadioEnd {
             bearer: Bearer::new(settings),
             links: None,
-            rate: None,
-            alignment: None,
-            rates: Number::first(),
-            alignments: Number::first(),
+            rate: Numbered::new(),
+            alignment: Numbered::new(),
             line,
         }
     }

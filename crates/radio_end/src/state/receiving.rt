@@ -8,7 +8,6 @@ ghost use Rattle.radio_end.specs.Runs.{Does, Step, receive};
 
 use super::RadioEnd;
 use crate::received::Received;
-use exchange::answer::AckNack;
 use frames::frame::{Frame, Question, UserData};
 use frames::procedure::Procedure;
 use frames::reading::read;
@@ -35,8 +34,7 @@ impl<L: Line> RadioEnd<L> {
         match frame {
             Frame::UserData(user) => self.deliver(user, report),
             Frame::Question(question) => self.question(question, report),
-            Frame::Ack(answer) => self.answer(AckNack::Ack, answer, report),
-            Frame::Nack(answer) => self.answer(AckNack::Nack, answer, report),
+            Frame::Answer(answer) => self.answer(answer, report),
         }
     }
 
@@ -58,6 +56,9 @@ impl<L: Line> RadioEnd<L> {
         }
         report.clear();
         let event = read_error_event(question)?;
-        Ok(Received::ErrorEvent(event.cause.value, event.distance.code() + 1))
+        Ok(Received::ErrorEvent {
+            cause: event.cause,
+            distance: event.distance.code() + 1,
+        })
     }
 }

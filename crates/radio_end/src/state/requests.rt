@@ -1,15 +1,15 @@
 // The requests that begin an exchange.
 ghost use Rattle.std.specs.Prelude.{◌≡◌, ◌+◌, take, None};
-ghost use Rattle.reports.specs.Effects.{Did, all_noted};
+ghost use Rattle.reports.specs.Effects.{all_noted};
 ghost use Rattle.set_in_force.specs.Looks.{highest_of};
-ghost use Rattle.radio_end.specs.Steps.{overtaken, beginning};
+ghost use Rattle.radio_end.specs.Steps.{overtaken};
 ghost use Rattle.radio_end.specs.Runs.{Step, start, rate, align};
 
 use super::RadioEnd;
 use bearer::marks::allow_one;
 use exchange::exchange::Exchange;
 use exchange::inquiry::Inquiry;
-use exchange::slots::begin_in;
+use exchange::slots::start_in;
 use frames::mask::{MOST_MARKS, RateMask};
 use frames::number::Number;
 use frames::refusal::Refusal;
@@ -34,20 +34,7 @@ fn overtake<Q: Inquiry>(slot: &mut Option<Exchange<Q>>, report: &mut Report)
     }
 }
 
-// A question that is about to be asked begins.
-fn begin<Q: Inquiry, L: Line>(
-    slot: &mut Option<Exchange<Q>>,
-    first: Exchange<Q>,
-    line: &mut L,
-    report: &mut Report,
-)
-    ensures { Did L.waiting (beginning Q.frames Q.KIND (L.takes line.old) first) slot.new result line.old line.new report.old report.new }
-{
-    first.start(line, report);
-    *slot = Some(first);
-}
-
-// As many of the marks as the set has RFCIs up to its highest.
+// As many of the marks as the set has RFCIs up to its highest. A library has no heap: the marks come as an array, of which a `RateMask` takes the first.
 fn mask_for(set: &InForce, bars: [bool; MOST_MARKS]) -> RateMask
     ensures { result ≡ take (highest_of set.now.combinations + 1) bars }
 {
@@ -75,10 +62,10 @@ impl<L: Line> RadioEnd<L> {
         if !first.is_taken(&self.line) {
             return Err(Refusal::LineDeclines);
         }
-        overtake(&mut self.rate, report);
-        overtake(&mut self.alignment, report);
+        overtake(&mut self.rate.running, report);
+        overtake(&mut self.alignment.running, report);
         self.bearer.suspend();
-        begin(&mut self.links, first, &mut self.line, report);
+        start_in(&mut self.links, first, &mut self.line, report);
         Ok(())
     }
 
@@ -87,10 +74,8 @@ impl<L: Line> RadioEnd<L> {
         ensures { Step L.waiting L.takes self.old (rate bars result report.new) self.new }
     {
         report.clear();
-        let Some(set) = self.bearer.in_force() else {
-            return Err(Refusal::WrongPhase);
-        };
-        if self.rate.is_some() {
+        let set = self.bearer.in_force().ok_or(Refusal::WrongPhase)?;
+        if self.rate.running.is_some() {
             return Err(Refusal::AlreadyRuns);
         }
         if !allow_one(set, &bars) {
@@ -98,16 +83,7 @@ impl<L: Line> RadioEnd<L> {
         }
         let question = RateQuestion::new(mask_for(set, bars));
         let limits = self.bearer.settings().rate;
-        begin_in(
-            &mut self.rate,
-            question,
-            self.rates,
-            limits,
-            &mut self.line,
-            report,
-        )?;
-        self.rates = self.rates.following();
-        Ok(())
+        self.rate.begin(question, limits, &mut self.line, report)
     }
 
     // Asks the other end to send later or earlier by some steps.
@@ -123,20 +99,12 @@ impl<L: Line> RadioEnd<L> {
         if self.bearer.in_force().is_none() {
             return Err(Refusal::WrongPhase);
         }
-        if self.alignment.is_some() {
+        if self.alignment.running.is_some() {
             return Err(Refusal::AlreadyRuns);
         }
         let question = AlignmentQuestion::new(Shift::new(direction, steps)?);
         let limits = self.bearer.settings().alignment;
-        begin_in(
-            &mut self.alignment,
-            question,
-            self.alignments,
-            limits,
-            &mut self.line,
-            report,
-        )?;
-        self.alignments = self.alignments.following();
-        Ok(())
+        self.alignment
+            .begin(question, limits, &mut self.line, report)
     }
 }

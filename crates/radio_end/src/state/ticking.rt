@@ -35,13 +35,13 @@ impl<L: Line> RadioEnd<L> {
         ensures { Does L.waiting (rate_ticked (L.takes self.old.line) self.old.state) self.old result report.old report.new self.new }
     {
         let limits = self.bearer.settings().rate;
-        pass_in(&mut self.rate, limits, &mut self.line, report);
+        pass_in(&mut self.rate.running, limits, &mut self.line, report);
     }
 
     fn tick_alignment(&mut self, report: &mut Report)
         ensures { Does L.waiting (alignment_ticked (L.takes self.old.line) self.old.state) self.old result report.old report.new self.new }
     {
         let limits = self.bearer.settings().alignment;
-        pass_in(&mut self.alignment, limits, &mut self.line, report);
+        pass_in(&mut self.alignment.running, limits, &mut self.line, report);
     }
 }

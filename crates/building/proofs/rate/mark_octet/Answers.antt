@@ -8,6 +8,5 @@ use Rattle.building.proofs.rate.mark_octet.Goals as goal
 pub returns : goal.returns
 returns c =
     let b = c.args.bars.now in
-    let n = c.args.first in
-    fold_from_yields_List _ (λ (o k : ℕ). o * 2 % 256 + mark b k) 0 c.fold.result c.fold.ensures.ran (YieldsList-from_range n (n + 8) 8 refl (omega arith)) (λ o k p q h. search rules)
-    ∙ octet_folded n b
+    fold_from_yields_List _ (λ (o k : ℕ). o * 2 % 256 + mark b k) 0 c.fold.result c.fold.ensures.ran (YieldsList-from_range 0 8 8 refl (omega arith)) (λ o k p q h. search rules)
+    ∙ octet_folded b

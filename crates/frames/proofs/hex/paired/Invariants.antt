@@ -1,6 +1,6 @@
-use Rattle.std.proofs.Common.{◌≡◌}
+use Rattle.std.proofs.Common.{◌*◌, drop}
 use Rattle.frames.proofs.Pairs.{Reading}
 use Rattle.frames.proofs.hex.paired.Given as goal
 
-abbrev pub invariant-loop-pair : goal.invariant-loop-pair
-invariant-loop-pair l = (l.pair-iterator.size ≡ 2) × Reading l.digits l.pair-iterator.rest.now l.octets
+abbrev pub invariant-loop-high : goal.invariant-loop-high
+invariant-loop-high l = Reading l.digits (drop (2 * l.high-index) l.digits) l.octets

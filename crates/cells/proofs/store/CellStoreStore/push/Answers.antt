@@ -1,15 +1,16 @@
-use Rattle.std.proofs.Common.{◌<◌, length, sym}
+use Rattle.std.proofs.Common.{length, rules}
 use Rattle.lines.proofs.Queues.{sent}
-use Rattle.cells.proofs.Puts.{free_cell, frames_put, sound_put}
+use Rattle.lines.proofs.Turns.{gain_some, gained_some}
+use Rattle.cells.proofs.Puts.{room_left, frames_put}
 use Rattle.cells.proofs.store.CellStoreStore.push.Goals as goal
 
-room : (c : goal.After-self-1) → c.self.inside.used < c.self.inside.size
-room c = free_cell _ _ _ _ c.self.invariant c.args.self.now (length c.args.frame.now) c.self.view_is (sym c.if-not-has_room.ensures)
-
-pub invariant_of-self : goal.invariant_of-self
-invariant_of-self c = sound_put _ _ _ _ c.self.invariant _ _ (room c) c.step-next.ensures
+pub unwrap-next-requires : goal.unwrap-next-requires
+unwrap-next-requires c =
+    gain_some 1 c.self.inside.turning c.gain.result c.gain.ensures.at
+    (room_left c.self.inside.cells c.self.inside.turning c.self.invariant c.args.self.now c.self.view_is (length c.args.frame.now) (search rules))
 
 pub returns-clause-frames : goal.returns-clause-frames
 returns-clause-frames c =
-    sent (λ s. s.frames) c.args.self.now _ _ c.args.frame.now c.if-not-has_room.ensures
-    (frames_put _ _ _ _ c.self.invariant _ _ (room c) c.step-next.ensures c.args.self.now c.args.frame.now c.self.view_is c.fill.ensures)
+    let more = gained_some 1 c.self.inside.turning c.gain.new.self c.gain.result c.gain.ensures.at c.gain.ensures.turning c.gain.ensures.round c.unwrap-next.result c.unwrap-next.ensures in
+    sent (λ s. s.frames) c.args.self.now _ _ c.args.frame.now (search rules)
+    (frames_put c.self.inside.cells c.self.inside.turning c.self.invariant c.args.self.now c.self.view_is c.gain.ensures.round _ _ _ c.gain.new.self more.0 more.1 more.2 c.fill.ensures)

@@ -1,8 +1,8 @@
-use Rattle.std.proofs.Common.{◌≡◌, ◌+◌, ◌*◌, ◌≤◌, ◌++◌, length, drop}
+use Rattle.std.proofs.Common.{◌≡◌, ◌≤◌, ◌++◌, length, drop}
 use Rattle.link_building.specs.Wire.{combinations}
 use Rattle.link_building.proofs.part.Part.write_combinations.Given as goal
 
-abbrev pub invariant-loop-place : goal.invariant-loop-place
-invariant-loop-place l =
-    (l.out ++ combinations (drop l.place l.self.combinations) ≡ l.initial.out ++ combinations l.self.combinations)
-    × (length l.out ≤ length l.initial.out + 15 * l.place)
+abbrev pub invariant-loop-row : goal.invariant-loop-row
+invariant-loop-row l =
+    (l.out ++ combinations (drop l.row-index l.self.combinations) ≡ l.initial.out ++ combinations l.self.combinations)
+    × (l.row-index ≤ length l.others)

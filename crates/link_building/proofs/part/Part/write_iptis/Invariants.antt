@@ -1,4 +1,4 @@
-use Rattle.std.proofs.Common.{◌≡◌, ◌+◌, ◌*◌, ◌%◌, ◌≤◌, true, ◌++◌, length}
+use Rattle.std.proofs.Common.{◌≡◌, true, ◌++◌}
 use Rattle.std.specs.Slice.Iter.{chunks_rest, chunks_size}
 use Rattle.sets.specs.Rows.{sound}
 use Rattle.link_building.specs.Wire.{nibbles}
@@ -13,4 +13,3 @@ invariant-loop-pair l =
     × (chunks_size l.pair-iterator ≡ 2)
     × (l.out ++ nibbles left ≡ l.initial.out ++ nibbles l.self.combinations)
     × (sound o.subflows o.timed left ≡ true)
-    × (2 * length l.out + length left + length left % 2 ≤ 2 * length l.initial.out + length l.self.combinations + 1)

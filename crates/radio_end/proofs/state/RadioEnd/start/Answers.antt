@@ -14,8 +14,8 @@ returns-then-not-is_taken g c =
 pub returns : goal.returns
 returns g c =
     let r = c.args.self.now.state in
-    let s : Radio = record { bearing = c.suspend.new.self; links = c.begin.new.slot; rate = c.overtake.new.slot; alignment = c.overtake-2.new.slot; rates = c.self.inside.rates.value; alignments = c.self.inside.alignments.value } in
+    let s : Radio = record { bearing = c.suspend.new.self; links = c.start_in.new.slot; rate = record { running = c.overtake.new.slot; next = c.self.inside.rate.next }; alignment = record { running = c.overtake-2.new.slot; next = c.self.inside.alignment.next } } in
     let line : c.self.inside.line ≡ c.args.self.now.line = ap (λ e. e.line) c.self.view_is in
-    subst (λ l. Did g.L.Line.waiting (started (g.L.Line.takes l) c.args.set r) s (Ok tt) l c.begin.new.line [] c.begin.new.report) line
-    (start_did g.L.Line.waiting g.L.Line.takes c.args.set r c.self.inside.line c.first-first.result c.is_taken.result s c.begin.new.slot c.begin.new.line c.clear.new.self c.overtake.new.report c.overtake-2.new.report c.begin.new.report
-    (search rules) (search rules) (search rules) c.is_taken.ensures (search rules) c.clear.ensures (search rules) (search rules) c.begin.ensures (search rules))
+    subst (λ l. Did g.L.Line.waiting (started (g.L.Line.takes l) c.args.set r) s (Ok tt) l c.start_in.new.line [] c.start_in.new.report) line
+    (start_did g.L.Line.waiting g.L.Line.takes c.args.set r c.self.inside.line c.first-first.result c.is_taken.result s c.start_in.new.slot c.start_in.new.line c.clear.new.self c.overtake.new.report c.overtake-2.new.report c.start_in.new.report
+    (search rules) (search rules) (search rules) c.is_taken.ensures (search rules) c.clear.ensures (search rules) (search rules) c.start_in.ensures (search rules))

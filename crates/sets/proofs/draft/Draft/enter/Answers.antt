@@ -8,10 +8,10 @@ pub new-requires : goal.new-requires
 new-requires c =
     let a = admission _ _ _ _ c.requires in
     let v = ap (λ (d : Contents). d.opening.subflows) c.self.view_is in
-    let few = c.self.invariant.0.few in
+    let few = c.self.invariant.sound.few in
     omega (arith, a.count)
 
 pub invariant_of-self : goal.invariant_of-self
 invariant_of-self c =
-    let f = free_push _ _ c.self.invariant.1 (ap (λ r. r.allowed) c.new.ensures) in
-    (c.push.ensures.sound, ap free c.push.ensures.rows ∙ f)
+    let f = free_push _ _ c.self.invariant.free (ap (λ r. r.allowed) c.new.ensures) in
+    record { sound = c.push.ensures.sound; free = ap free c.push.ensures.rows ∙ f }

@@ -1,6 +1,5 @@
-use Rattle.std.proofs.Common.{subst, sym, ◌∙◌}
+use Rattle.std.proofs.Common.{subst, sym}
 use Rattle.frames.proofs.Rooms.{push_room, pushed_room}
-use Rattle.sets.specs.declared.table.Table.{Table}
 use Rattle.sets.specs.Tables.{SoundTable}
 use Rattle.sets.proofs.Tabled.{table_room, push_sound}
 use Rattle.sets.proofs.table.Table.push.Goals as goal
