@@ -1,4 +1,4 @@
-// The first four octets of a frame: its fields, and the checksums over them and over its payload.
+// The first four octets of a frame: its fields, and the checksums over them and over its payload, whose two high bits lie in the octet of the other.
 ghost use Rattle.std.specs.Prelude.{◌≡◌, ◌<◌};
 ghost use Rattle.building.specs.Building.{header};
 

@@ -3,7 +3,7 @@
 use crate::data_type::DataType;
 use crate::procedure::Procedure;
 
-// The header fields of user data.
+// The header fields of user data. They are plain numbers too: anybody may build one, and `build_user_data` refuses what is out of range.
 #[derive(Clone, Copy, PartialEq, Eq, Debug)]
 pub struct DataHeader {
     pub data_type: DataType,

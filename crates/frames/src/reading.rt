@@ -10,7 +10,7 @@ use crate::header::{PduType, read_header};
 use crate::procedure::Procedure;
 use crate::refusal::Refusal;
 
-// The ten bits after the header checksum.
+// The ten bits after the header checksum: two of them lie in its octet, so they are no two octets of a number.
 fn sum_field(third: u8, fourth: u8) -> u16
     ensures { result ≡ third % 4 * 256 + fourth }
 {

@@ -25,6 +25,7 @@ impl Model for Report {
 
     ghost view = { λ r. take r.count r.list };
 
+    // `MOST`, which is not in scope here
     ghost invariant = { λ r. r.count ≤ 4 };
 }
 

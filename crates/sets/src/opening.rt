@@ -9,6 +9,7 @@ use std::marker::Model;
 
 #[derive(Clone, Copy, PartialEq, Eq, Debug)]
 pub struct Opening {
+    // at most `MOST_SUBFLOWS`: a const argument is no computed one, and the constant is of another width
     subflows: Ranged<1, 7>,
     timed: bool,
     data_type: DataType,
