@@ -1,3 +1,4 @@
+-- The answers behind one another begin alike, as in `extend`: the points that they share have no name that can be given here.
 use Rattle.std.proofs.Common.{rules, ◌≡◌, ◌+◌, ◌*◌, ◌-◌, ◌<◌, ◌≤◌, ◌∙◌, length, get_or, take, drop, sym, arith}
 use Rattle.std.proofs.lemmas.List.{take_rest}
 use Rattle.link_reading.specs.Layout.{chain_of}

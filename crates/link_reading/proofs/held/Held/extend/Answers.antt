@@ -1,3 +1,4 @@
+-- The two answers at one point of the code begin alike: that point was tried as the type of a helper, and has no name that can be given here.
 use Rattle.std.proofs.Common.{rules, ◌≡◌, ◌+◌, ◌≤◌, not, length, drop, Some, None, Err, sym, ap, ◌∙◌, arith}
 use Rattle.std.proofs.lemmas.Bool.{cond_both}
 use Rattle.frames.specs.declared.refusal.Refusal.TheVariants.{UnexpectedValue}
