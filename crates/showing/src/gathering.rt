@@ -47,8 +47,10 @@ impl Gathered {
         if self.first.is_some() {
             return Err(Refusal::Hexadecimal);
         }
-        let octets = self.frame?;
-        read_header(octets.as_slice())
+        match &self.frame {
+            Ok(octets) => read_header(octets.as_slice()),
+            Err(refusal) => Err(*refusal),
+        }
     }
 }
 
@@ -65,6 +67,9 @@ fn join(frame: &mut Result<Octets, Refusal>, octet: Result<u8, Refusal>)
                 }
             }
         }
-        Err(refusal) => *frame = Err(refusal),
+        Err(refusal) => match frame {
+            Ok(_) => *frame = Err(refusal),
+            Err(told) => *told = refusal,
+        },
     }
 }
