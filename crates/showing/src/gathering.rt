@@ -4,8 +4,11 @@ ghost use Rattle.showing.specs.Shown.{shown, gathered, joined};
 
 use frames::header::{Header, read_header};
 use frames::hex::read_pair;
-use frames::octets::Octets;
+use frames::octets::{LONGEST, Octets};
 use frames::refusal::Refusal;
+
+// The most digits of which the octets are kept: those of the longest frame. A line that is longer is refused.
+pub const KEPT: usize = 2 * LONGEST;
 
 #[derive(Clone, Copy, PartialEq, Eq, Debug)]
 pub struct Gathered {
@@ -71,5 +74,24 @@ fn join(frame: &mut Result<Octets, Refusal>, octet: Result<u8, Refusal>)
             Ok(_) => *frame = Err(refusal),
             Err(told) => *told = refusal,
         },
+    }
+}
+
+#[cfg(test)]
+mod tests {
+    use super::*;
+
+    // So many digits are a frame's; a pair more is too much for one.
+    #[test]
+    fn kept(rt: HostRuntime) {
+        let mut line = Gathered::new();
+        for digit in &[b'0'; KEPT] {
+            line.push(*digit);
+        }
+        assert!(rt; line.show().is_ok());
+        line.push(b'0');
+        assert!(rt; line.show() == Err(Refusal::Hexadecimal));
+        line.push(b'0');
+        assert!(rt; line.show() == Err(Refusal::TooLong));
     }
 }
