@@ -59,6 +59,7 @@ impl Gathered {
 
 // One octet more. A strange digit is told before all else, and what is too long stays so.
 // In place, not by `?`: a frame that comes out by value is copied at each octet, and long lines took seven times as long. One match of both took 7 % longer.
+// A refusal is written over alone: with the whole frame, lines of strange digits took twice as long.
 fn join(frame: &mut Result<Octets, Refusal>, octet: Result<u8, Refusal>)
     ensures { frame.new ≡ joined frame.old octet }
 {
