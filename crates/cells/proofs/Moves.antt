@@ -7,10 +7,10 @@ use Rattle.std.proofs.lemmas.Bool.Decides.{nat_tests}
 use Rattle.frames.specs.Frame.{longest}
 use Rattle.lines.specs.Meaning.{Framed, EachFramed}
 use Rattle.lines.specs.Circle.{place, Turn}
-use Rattle.lines.proofs.Turns.{place_below, length_window}
+use Rattle.lines.proofs.Turns.{place_below, length_window, window_cut}
 use Rattle.cells.specs.Standing.{standing, free}
 use Rattle.cells.specs.Moves.{in_use, Kept, put_at, cut}
-use Rattle.cells.proofs.Puts.{frames_put, frames_first}
+use Rattle.cells.proofs.Puts.{frames_put}
 
 module _ (cells : List (List ℕ)) (t : Turn) where
   pub all_filled : EachFramed (in_use cells t) → AllByRecursion Framed (in_use cells t)
@@ -41,27 +41,28 @@ module _ (cells : List (List ℕ)) (t : Turn) (at : ℕ) (f : List ℕ) (kept : 
   pub held-put : (standing (slice_set cells at f) (put_at t)).frames ≡ (standing cells t).frames ++ f ∷ []
   held-put = in_use-put
 
-module _ (cells : List (List ℕ)) (t : Turn) (at : ℕ) (kept : Kept cells t) (some : 0 < t.used) (is : at ≡ place t.size t.head 1) where
+module _ (cells : List (List ℕ)) (t : Turn) (at : ℕ) (some : 0 < t.used) (is : at ≡ place t.size t.head 1) where
   pub in_use-cut : in_use cells t ≡ get_or cells t.head [] ∷ in_use cells (cut t at)
   in_use-cut =
-      frames_first cells t kept.sound (standing cells t) refl kept.round t.head [] (omega arith) refl
+      window_cut [] cells t.size t.head t.used some
       ∙ ap (λ p. get_or cells t.head [] ∷ in_use cells (cut t p)) (sym is)
-
-  pub sound-cut : Kept cells (cut t at)
-  sound-cut =
-      let size = kept.sound.some in
-      let begun = kept.round.begun in
-      let within = kept.round.within in
-      let below = place_below t.size t.head 1 (omega arith) (omega arith) in
-      record {
-        sound = record { wide = kept.sound.wide; some = size; few = kept.sound.few };
-        round = record { begun = omega arith; within = omega arith };
-        filled = each_filled cells (cut t at) (subst (AllByRecursion Framed) in_use-cut (all_filled cells t kept.filled)).1;
-      }
 
   pub held_cut : (standing cells t).frames ≡ get_or cells t.head [] ∷ (standing cells (cut t at)).frames
   held_cut = in_use-cut
 
-  -- the oldest has 1 to 512 octets
-  pub head-filled : Framed (get_or cells t.head [])
-  head-filled = (subst (AllByRecursion Framed) in_use-cut (all_filled cells t kept.filled)).0
+  module _ (kept : Kept cells t) where
+    pub sound-cut : Kept cells (cut t at)
+    sound-cut =
+        let size = kept.sound.some in
+        let begun = kept.round.begun in
+        let within = kept.round.within in
+        let below = place_below t.size t.head 1 (omega arith) (omega arith) in
+        record {
+          sound = record { wide = kept.sound.wide; some = size; few = kept.sound.few };
+          round = record { begun = omega arith; within = omega arith };
+          filled = each_filled cells (cut t at) (subst (AllByRecursion Framed) in_use-cut (all_filled cells t kept.filled)).1;
+        }
+
+    -- the oldest has 1 to 512 octets
+    pub head-filled : Framed (get_or cells t.head [])
+    head-filled = (subst (AllByRecursion Framed) in_use-cut (all_filled cells t kept.filled)).0
