@@ -4,14 +4,12 @@ use crate::command::{Call, Command, understand};
 use crate::driving::drive;
 use crate::preparing::{LineSize, Prepared};
 use crate::printing::Said;
-use crate::reading::Misread;
 use cells::cells::Cells;
 use radio_end::state::RadioEnd;
 use reports::report::Report;
 use ring::ring::Ring;
 use script::names::End;
 use script::words::Words;
-use std::alloc::Global;
 use std::io;
 use std::io::Write;
 
@@ -27,7 +25,6 @@ enum Radio {
 pub struct Session {
     prepared: Prepared,
     radio: Option<Radio>,
-    alloc: Global,
 }
 
 // Blank lines and remarks ask for nothing.
@@ -36,11 +33,10 @@ fn is_silent(line: &[u8]) -> bool {
 }
 
 impl Session {
-    pub(crate) fn new(alloc: Global) -> Session {
+    pub(crate) fn new() -> Session {
         Session {
             prepared: Prepared::new(),
             radio: None,
-            alloc,
         }
     }
 
@@ -67,7 +63,7 @@ impl Session {
     fn obey(&mut self, command: Command, report: &mut Report) -> Result<Answer, Complaint> {
         match command {
             Command::Draft(opening) => self.prepared.open_draft(opening?),
-            Command::Add { rfci, ipti, sizes } => self.prepared.add(rfci, ipti, sizes.as_slice())?,
+            Command::Add(addition) => self.prepared.add(addition)?,
             Command::Close => self.prepared.close()?,
             Command::Settings(settings) => self.prepared.settings = Some(settings?),
             Command::Line(size) => self.prepared.size = Some(size?),
@@ -88,10 +84,9 @@ impl Session {
         out.write_all(b"> ")?;
         out.write_all(line)?;
         out.write_all(b"\n")?;
-        let command = match understand(line, self.alloc) {
+        let command = match understand(line) {
             Ok(command) => command,
-            Err(Misread::Unclear(unclear)) => return writeln!(out, "? {unclear}"),
-            Err(Misread::Memory(error)) => return Err(error.into()),
+            Err(unclear) => return writeln!(out, "? {unclear}"),
         };
         let mut report = Report::new();
         match self.obey(command, &mut report) {
