@@ -25,6 +25,8 @@ enum Radio {
 pub struct Session {
     prepared: Prepared,
     radio: Option<Radio>,
+    // of the line that is played: one for all, since it is two kibibytes
+    report: Report,
 }
 
 // Blank lines and remarks ask for nothing.
@@ -37,6 +39,7 @@ impl Session {
         Session {
             prepared: Prepared::new(),
             radio: None,
+            report: Report::new(),
         }
     }
 
@@ -51,8 +54,9 @@ impl Session {
         Ok(())
     }
 
-    fn call_radio(&mut self, call: Call, report: &mut Report) -> Result<Answer, Complaint> {
+    fn call_radio(&mut self, call: Call) -> Result<Answer, Complaint> {
         let set = self.prepared.set;
+        let report = &mut self.report;
         match &mut self.radio {
             Some(Radio::OverCells(radio)) => drive(radio, call, set, report),
             Some(Radio::OverRing(radio)) => drive(radio, call, set, report),
@@ -60,7 +64,7 @@ impl Session {
         }
     }
 
-    fn obey(&mut self, command: Command, report: &mut Report) -> Result<Answer, Complaint> {
+    fn obey(&mut self, command: Command) -> Result<Answer, Complaint> {
         match command {
             Command::Draft(opening) => self.prepared.open_draft(opening?),
             Command::Add(addition) => self.prepared.add(addition)?,
@@ -68,7 +72,7 @@ impl Session {
             Command::Settings(settings) => self.prepared.settings = Some(settings?),
             Command::Line(size) => self.prepared.size = Some(size?),
             Command::Open(End::Radio) => self.open_radio()?,
-            Command::At(End::Radio, call) => return self.call_radio(call, report),
+            Command::At(End::Radio, call) => return self.call_radio(call),
             Command::Open(End::Core) | Command::At(End::Core, _) | Command::Carry(_) => {
                 return Err(Complaint::Missing(Missing::CoreEnd));
             }
@@ -88,12 +92,12 @@ impl Session {
             Ok(command) => command,
             Err(unclear) => return writeln!(out, "? {unclear}"),
         };
-        let mut report = Report::new();
-        match self.obey(command, &mut report) {
+        self.report.clear();
+        match self.obey(command) {
             Ok(answer) => writeln!(out, "{answer}")?,
             Err(complaint) => writeln!(out, "{complaint}")?,
         }
-        for happening in report.happenings() {
+        for happening in self.report.happenings() {
             writeln!(out, "  {}", Said(*happening))?;
         }
         Ok(())
