@@ -17,7 +17,7 @@ use std::io::{BufRead, BufReader, BufWriter, Write};
 fn main(rt: HostRuntime) -> io::Result<()> {
     let input = BufReader::new(rt.alloc(), rt.stdin())?;
     let mut out = BufWriter::new(rt.alloc(), rt.stdout())?;
-    let mut session = Session::new(rt.alloc());
+    let mut session = Session::new();
     for line in input.split(rt.alloc(), b'\n') {
         let line = line?;
         session.play(line.as_slice(), &mut out)?;
