@@ -6,12 +6,13 @@ use super::limits::MOST_SUBFLOWS;
 use frames::row::{Blank, Row};
 use std::marker::Model;
 
+// The small fields come first: they lie in the order of the source, and the sizes begin at a multiple of eight octets.
 #[derive(Clone, Copy, PartialEq, Eq, Debug)]
 pub struct Combination {
     rfci: u8,
     ipti: u8,
-    sizes: Row<u16, MOST_SUBFLOWS>,
     allowed: bool,
+    sizes: Row<u16, MOST_SUBFLOWS>,
 }
 
 impl Model for Combination {
