@@ -6,13 +6,13 @@ use super::limits::MOST_SUBFLOWS;
 use frames::row::{Blank, Row};
 use std::marker::Model;
 
-// The small fields come first: they lie in the order of the source, and the sizes begin at a multiple of eight octets.
+// Fields lie in the order of the source: the small ones stand together, so that no octets are lost between them.
 #[derive(Clone, Copy, PartialEq, Eq, Debug)]
 pub struct Combination {
+    sizes: Row<u16, MOST_SUBFLOWS>,
     rfci: u8,
     ipti: u8,
     allowed: bool,
-    sizes: Row<u16, MOST_SUBFLOWS>,
 }
 
 impl Model for Combination {
