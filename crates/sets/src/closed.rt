@@ -6,6 +6,7 @@ ghost use Rattle.sets.specs.Tables.{contents, SoundTable};
 
 use super::combination::Combination;
 use super::draft::Draft;
+use super::drafted::Drafted;
 use super::opening::Opening;
 use super::table::Table;
 use frames::refusal::Refusal;
@@ -87,8 +88,20 @@ impl Draft {
         ensures answer { result ≡ closing self.now }
         ensures place { place.new ≡ placed_by self.now place.old }
     {
-        self.copied()
-            .close(place)
-            .map_err(|unclosed| unclosed.refusal)
+        self.drafted().close(place)
+    }
+}
+
+impl Drafted {
+    // The same of a draft that says this. The table is copied once, right into the set.
+    pub fn close(&self, place: &mut Option<Set>) -> Result<(), Refusal>
+        ensures answer { result ≡ closing self.now }
+        ensures place { place.new ≡ placed_by self.now place.old }
+    {
+        if self.rows().is_empty() {
+            return Err(Refusal::NoCombination);
+        }
+        *place = Some(Set { table: self.table });
+        Ok(())
     }
 }
