@@ -2,13 +2,14 @@
 // the call that brought it succeeds, and the report names how the exchange ended. One that ended stays as it stood.
 ghost use Rattle.std.specs.Prelude.{◌≡◌, false};
 ghost use Rattle.reports.specs.Effects.{Did};
-ghost use Rattle.exchange.specs.Asking.{announced, sent, kept, again, ticked, turned};
+ghost use Rattle.exchange.specs.Asking.{announced, sent, kept, again, ticked, turned, heard};
 ghost use Rattle.exchange.specs.declared.answer.Turn.TheVariants.{Onward};
 
 use crate::answer::Turn;
 use crate::exchange::Exchange;
 use crate::inquiry::Inquiry;
 use crate::limits::Limits;
+use frames::refusal::Refusal;
 use lines::line::Line;
 use reports::ending::Ending;
 use reports::happening::Happening;
@@ -81,7 +82,7 @@ impl<Q: Inquiry> Exchange<Q> {
         false
     }
 
-    // An answer to the present frame, by what it leads to. Whoever calls this has compared the answer's number with the present frame's, as `hear_in` does.
+    // An answer to the present frame, by what it leads to. Whoever calls this has compared the answer's number with the present frame's, as `hear` does.
     pub fn turn<L: Line>(
         &mut self,
         turn: Turn,
@@ -100,5 +101,25 @@ impl<Q: Inquiry> Exchange<Q> {
                 false
             }
         }
+    }
+
+    // An answer with a number, by what it leads to and by how the call that brought it comes out.
+    // One with another number than the present frame's changes nothing, not even the ticks.
+    pub fn hear<A: Drop, L: Line>(
+        &mut self,
+        turn: Turn,
+        answer: Result<A, Refusal>,
+        number: u8,
+        limits: Limits,
+        line: &mut L,
+        report: &mut Report,
+    ) -> (bool, Result<A, Refusal>)
+        ensures does { Did L.waiting (heard Q.frames Q.KIND (L.takes line.old) limits Q.follows Q.DECLINED turn answer number self.old) (kept result.0 self.new) result.1 line.old line.new report.old report.new }
+        ensures left { result.0 ≡ false → self.new ≡ self.old }
+    {
+        if self.number != number {
+            return (true, Err(Refusal::UnexpectedValue));
+        }
+        (self.turn(turn, limits, line, report), answer)
     }
 }
