@@ -1,12 +1,13 @@
 -- What a store holds after one frame more, and after one less.
-use Rattle.std.proofs.Common.{◌≡◌, ℕ, ◌<◌, ◌≤◌, true, List, [], ◌∷◌, ◌++◌, length, get_or, slice_set, sym, refl, ap, subst, ◌∙◌, arith}
+use Rattle.std.proofs.Common.{◌≡◌, ℕ, ◌-◌, ◌<◌, ◌≤◌, true, nat_le, List, [], ◌∷◌, ◌++◌, length, get_or, slice_set, sym, refl, ap, subst, ◌∙◌, arith}
 use Rattle.std.specs.List.{AllByRecursion}
 use Rattle.std.proofs.lemmas.List.{length-set}
 use Rattle.std.proofs.ByRecursion.{All-push, All-from_get_or, All-get_or}
+use Rattle.std.proofs.lemmas.Bool.{cond-true}
 use Rattle.std.proofs.lemmas.Bool.Decides.{nat_tests}
 use Rattle.frames.specs.Frame.{longest}
 use Rattle.lines.specs.Meaning.{Framed, EachFramed}
-use Rattle.lines.specs.Circle.{place, Turn}
+use Rattle.lines.specs.Circle.{place, Turn, gained, lost}
 use Rattle.lines.proofs.Turns.{place_below, length_window, window_cut}
 use Rattle.cells.specs.Standing.{standing, free}
 use Rattle.cells.specs.Moves.{in_use, Kept, put_at, cut}
@@ -66,3 +67,15 @@ module _ (cells : List (List ℕ)) (t : Turn) (at : ℕ) (some : 0 < t.used) (is
     -- the oldest has 1 to 512 octets
     pub head-filled : Framed (get_or cells t.head [])
     head-filled = (subst (AllByRecursion Framed) in_use-cut (all_filled cells t kept.filled)).0
+
+-- what the places of a store do, where one is free or in use
+some_left : (n : ℕ) → 0 < n → nat_le 1 n ≡ true
+some_left n h = grind (arith, nat_tests)
+
+pub gained_put : (t : Turn) → t.used < t.size → gained 1 t ≡ put_at t
+gained_put t room =
+    let left : 0 < t.size - t.used = omega arith in
+    cond-true (nat_le 1 (t.size - t.used)) (put_at t) t (some_left (t.size - t.used) left)
+
+pub lost_cut : (t : Turn) → 0 < t.used → lost 1 t ≡ cut t (place t.size t.head 1)
+lost_cut t some = cond-true (nat_le 1 t.used) (cut t (place t.size t.head 1)) t (some_left t.used some)

@@ -1,4 +1,4 @@
-// Drafts closed into sets. What links and data rely on holds of every set, since closing a draft is the only way to one.
+// Drafts closed into sets. What links and data rely on holds of every set, since closing a draft, or what one said, is the only way to one.
 ghost use Rattle.std.specs.Prelude.{◌≡◌};
 ghost use Rattle.sets.specs.Closing.{closed_by, closing, placed_by};
 ghost use Rattle.sets.specs.Contents.{ClosedSet};
