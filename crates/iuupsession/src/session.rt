@@ -64,7 +64,8 @@ impl Session {
         }
     }
 
-    fn obey(&mut self, command: Command) -> Result<Answer, Complaint> {
+    // What prepares, done or complained of: it makes no answer, which has room for a set and is written over at each line.
+    fn prepare(&mut self, command: Command) -> Result<(), Complaint> {
         match command {
             Command::Draft(opening) => self.prepared.open_draft(opening?),
             Command::Add(addition) => self.prepared.add(addition)?,
@@ -72,12 +73,26 @@ impl Session {
             Command::Settings(settings) => self.prepared.settings = Some(settings?),
             Command::Line(size) => self.prepared.size = Some(size?),
             Command::Open(End::Radio) => self.open_radio()?,
-            Command::At(End::Radio, call) => return self.call_radio(call),
-            Command::Open(End::Core) | Command::At(End::Core, _) | Command::Carry(_) => {
+            Command::Open(End::Core) | Command::At(_, _) | Command::Carry(_) => {
                 return Err(Complaint::Missing(Missing::CoreEnd));
             }
         }
-        Ok(Answer::Done)
+        Ok(())
+    }
+
+    // What the line asks for is done, and its answer written.
+    fn obey(&mut self, command: Command, out: &mut impl Write) -> io::Result<()> {
+        let complaint = match command {
+            Command::At(End::Radio, call) => match self.call_radio(call) {
+                Ok(answer) => return writeln!(out, "{answer}"),
+                Err(complaint) => complaint,
+            },
+            command => match self.prepare(command) {
+                Ok(()) => return out.write_all(b"ok\n"),
+                Err(complaint) => complaint,
+            },
+        };
+        writeln!(out, "{complaint}")
     }
 
     // One line of the script: its echo, what it answers, and each entry of the report.
@@ -93,10 +108,7 @@ impl Session {
             Err(unclear) => return writeln!(out, "? {unclear}"),
         };
         self.report.clear();
-        match self.obey(command) {
-            Ok(answer) => writeln!(out, "{answer}")?,
-            Err(complaint) => writeln!(out, "{complaint}")?,
-        }
+        self.obey(command, out)?;
         for happening in self.report.happenings() {
             writeln!(out, "  {}", Said(*happening))?;
         }
