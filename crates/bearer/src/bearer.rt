@@ -9,13 +9,13 @@ mod receiving;
 mod sending;
 
 use crate::settings::Settings;
-use crate::traffic::Traffic;
+pub use crate::traffic::Traffic;
 use frames::number::Number;
 use set_in_force::in_force::InForce;
 use sets::closed::Set;
 use std::marker::Model;
 
-#[derive(Drop)]
+#[derive(Clone, Copy)]
 pub struct Bearer {
     settings: Settings,
     // of the next error event
@@ -29,6 +29,8 @@ impl Model for Bearer {
     ghost Value = { Bearing };
 
     ghost view = { λ b. record { settings = b.settings; events = b.events; force = b.traffic } };
+
+    ghost inverse = { λ b. record { settings = b.settings; events = b.events; traffic = b.force } };
 }
 
 impl Bearer {
@@ -56,6 +58,20 @@ impl Bearer {
         self.settings
     }
 
+    // The number of the next error event.
+    pub fn events(&self) -> Number
+        ensures { result ≡ self.now.events }
+    {
+        self.events
+    }
+
+    // The set in force, and the numbers of its user data.
+    pub fn traffic(&self) -> Option<&Traffic>
+        ensures { option_map (λ t. t.now) result ≡ self.now.force }
+    {
+        self.traffic.as_ref()
+    }
+
     // A set comes into force: both numbers begin at 0.
     pub fn enforce(&mut self, set: Set)
         ensures { self.new ≡ with_force (Some (in_force set)) self.old }
@@ -74,6 +90,6 @@ impl Bearer {
     pub fn in_force(&self) -> Option<&InForce>
         ensures { option_map (λ s. s.now) result ≡ standing self.now.force }
     {
-        self.traffic.as_ref().map(|traffic| traffic.set())
+        self.traffic().map(|traffic| traffic.set())
     }
 }

@@ -1,5 +1,5 @@
 // The set in force and the numbers of its user data.
-ghost use Rattle.std.specs.Prelude.{◌≡◌};
+ghost use Rattle.std.specs.Prelude.{◌≡◌, ◌≤◌};
 ghost use Rattle.bearer.specs.Bearing.{in_force};
 ghost use Rattle.bearer.specs.Traffics.{numbered, frame_for};
 
@@ -19,8 +19,8 @@ use std::marker::Model;
 type FrameNumber = Ranged<0, 15>;
 
 // The set in force, the number of the next frame to send, and the number that is expected next.
-#[derive(Drop)]
-pub(crate) struct Traffic {
+#[derive(Clone, Copy)]
+pub struct Traffic {
     set: InForce,
     sending: FrameNumber,
     expected: FrameNumber,
@@ -32,11 +32,13 @@ impl Model for Traffic {
     ghost Value = { Force };
 
     ghost view = { λ t. record { set = t.set; sending = t.sending; expected = t.expected } };
+
+    ghost inverse = { λ x. record { set = x.set; sending = x.sending; expected = x.expected } };
 }
 
 impl Traffic {
     // A set comes into force: both numbers begin at 0.
-    pub(crate) fn of_set(set: Set) -> Traffic
+    pub fn of_set(set: Set) -> Traffic
         ensures { result ≡ in_force set }
     {
         Traffic {
@@ -46,10 +48,26 @@ impl Traffic {
         }
     }
 
-    pub(crate) fn set(&self) -> &InForce
+    pub fn set(&self) -> &InForce
         ensures { result.now ≡ self.now.set }
     {
         &self.set
+    }
+
+    // The number of the next frame to send.
+    pub fn sending(&self) -> u8
+        ensures is { result ≡ self.now.sending }
+        ensures low { self.now.sending ≤ 15 }
+    {
+        self.sending.value()
+    }
+
+    // The number that is expected next.
+    pub fn expected(&self) -> u8
+        ensures is { result ≡ self.now.expected }
+        ensures low { self.now.expected ≤ 15 }
+    {
+        self.expected.value()
     }
 
     // The next frame, with user data of a combination.

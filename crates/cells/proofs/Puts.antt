@@ -1,8 +1,8 @@
 -- What a store of cells stands for, before and after one frame more or less.
-use Rattle.std.proofs.Common.{◌≡◌, ℕ, suc, ◌+◌, ◌-◌, ◌<◌, ◌≤◌, true, List, [], ◌∷◌, ◌++◌, length, get_or, slice_set, ◌∙◌, sym, ap, arith, add-one}
+use Rattle.std.proofs.Common.{◌≡◌, ℕ, suc, ◌+◌, ◌-◌, ◌<◌, ◌≤◌, true, List, [], ◌∷◌, ◌++◌, length, get_or, slice_set, Option, ◌∙◌, sym, ap, arith, add-one}
 use Rattle.std.proofs.lemmas.List.{get_or_default}
 use Rattle.std.proofs.lemmas.Bool.Decides.{nat_tests}
-use Rattle.lines.specs.Circle.{place, Turn, Round, items_in}
+use Rattle.lines.specs.Circle.{place, Turn, Round, items_in, lose_at, lost}
 use Rattle.lines.proofs.Turns.{window_push, window_cut, length_window}
 use Rattle.cells.specs.Standing.{standing, Standing, Sound, free}
 
@@ -42,3 +42,7 @@ module _ (cells : List (List ℕ)) (t : Turn) (sound : Sound cells t) (s : Stand
   frames_none none =
       let bare : t.used ≡ 0 = omega arith in
       sym (ap (λ s. s.frames) is) ∙ ap (λ n. items_in [] cells (record { size = t.size; head = t.head; used = n })) bare
+
+-- one place is given up, however the one is written
+pub lost_one : (n : ℕ) (t t' : Turn) (r : Option ℕ) → r ≡ lose_at n t → t' ≡ lost n t → n ≡ 1 → (r ≡ lose_at 1 t) × (t' ≡ lost 1 t)
+lost_one n t t' r told turns one = (told ∙ ap (λ k. lose_at k t) one, turns ∙ ap (λ k. lost k t) one)

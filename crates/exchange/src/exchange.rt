@@ -3,6 +3,8 @@ ghost use Rattle.std.specs.Prelude.{◌≡◌, length};
 ghost use Rattle.exchange.specs.Asking.{begun};
 ghost use Rattle.exchange.specs.Course.{CoursesHold};
 
+// What an answer makes of an exchange is found beside it, too.
+pub use crate::answer::Turn;
 use crate::inquiry::Inquiry;
 use crate::limits::Limits;
 use frames::number::Number;
@@ -10,12 +12,13 @@ use lines::line::Line;
 
 // The ticks that are left, and how often the present frame was repeated.
 // The number of the present frame is plain, since `frame` and `more` of an `Inquiry` take any octet: a `Number` there would ask more of whoever calls them.
-#[derive(Drop)]
+// The fields are open, since nothing has to hold between them.
+#[derive(Clone, Copy, Drop)]
 pub struct Exchange<Q> {
-    pub(crate) question: Q,
-    pub(crate) ticks: u16,
-    pub(crate) repeats: u8,
-    pub(crate) number: u8,
+    pub question: Q,
+    pub ticks: u16,
+    pub repeats: u8,
+    pub number: u8,
 }
 
 impl<Q: Inquiry> Exchange<Q> {

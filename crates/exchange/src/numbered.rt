@@ -13,7 +13,7 @@ use lines::line::Line;
 use reports::report::Report;
 
 // The exchange that runs, and the number of the next question. The fields are open, since nothing has to hold between them.
-#[derive(Drop)]
+#[derive(Clone, Copy, Drop)]
 pub struct Numbered<Q> {
     pub running: Option<Exchange<Q>>,
     pub next: Number,

@@ -81,13 +81,11 @@ pub fn hear_in<Q: Inquiry, L: Line>(
     ensures { Did L.waiting (slot_heard Q.frames Q.KIND (L.takes line.old) limits Q.follows Q.DECLINED Q.turns (reply answer.entry) slot.old) slot.new result line.old line.new report.old report.new }
 {
     let running = slot.as_mut().ok_or(Refusal::UnexpectedProcedure)?;
-    if running.number != answer.number {
-        return Err(Refusal::UnexpectedValue);
-    }
     let read = read_cause(answer);
     let turn = Q::turn(&read);
-    if !running.turn(turn, limits, line, report) {
+    let (goes_on, told) = running.hear(turn, read, answer.number, limits, line, report);
+    if !goes_on {
         *slot = None;
     }
-    read
+    told
 }

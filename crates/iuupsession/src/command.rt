@@ -1,6 +1,6 @@
 // What a line of a script asks for.
 use crate::preparing::LineSize;
-use crate::reading::{Cursor, Misread};
+use crate::reading::{Cursor, Message, Sizes};
 use bearer::settings::{Numbering, Settings, Timing};
 use cells::count::CellCount;
 use frames::cause::Cause;
@@ -12,18 +12,17 @@ use script::marks::read_marks;
 use script::names::{End, Request, Verb, read_choice, read_request, read_verb};
 use script::unclear::Unclear;
 use sets::opening::Opening;
-use std::alloc::Global;
 
 // A call on an end that is open.
-#[derive(Drop)]
+#[derive(Clone, Copy)]
 pub enum Call {
     Start,
     Rate { bars: [bool; MOST_MARKS] },
     Align { direction: Direction, steps: u8 },
-    Data { rfci: u8, fqc: u8, payload: Vec<u8> },
+    Data { rfci: u8, fqc: u8, payload: Message },
     Report { cause: u8 },
-    Search { sizes: Vec<u16> },
-    Receive { frame: Vec<u8> },
+    Search { sizes: Sizes },
+    Receive { frame: Message },
     Accept,
     Decline { cause: Cause },
     Set,
@@ -31,11 +30,19 @@ pub enum Call {
     Take,
 }
 
-#[derive(Drop)]
+// A combination to add. Not fields of the variant: a row of them bound beside a `?` is not covered by the borrow checker.
+#[derive(Clone, Copy)]
+pub struct Addition {
+    pub rfci: u8,
+    pub ipti: u8,
+    pub sizes: Sizes,
+}
+
+#[derive(Clone, Copy)]
 pub enum Command {
     // the opening values that were written, or why no draft has such
     Draft(Result<Opening, Refusal>),
-    Add { rfci: u8, ipti: u8, sizes: Vec<u16> },
+    Add(Addition),
     Close,
     // the settings that were written, or why no end has such
     Settings(Result<Settings, Refusal>),
@@ -61,11 +68,11 @@ impl Cursor<'_> {
         Ok(Command::Draft(Opening::new(subflows, timed, data_type)))
     }
 
-    fn combination(&mut self) -> Result<Command, Misread> {
+    fn combination(&mut self) -> Result<Command, Unclear> {
         let rfci = self.number()?;
         let ipti = self.number()?;
         let sizes = self.sizes()?;
-        Ok(Command::Add { rfci, ipti, sizes })
+        Ok(Command::Add(Addition { rfci, ipti, sizes }))
     }
 
     fn timing(&mut self) -> Result<Timing, Unclear> {
@@ -127,7 +134,7 @@ impl Cursor<'_> {
     }
 
     // As `combination` reads three words, but of another meaning each: a common reader would be no plainer.
-    fn user_data(&mut self) -> Result<Call, Misread> {
+    fn user_data(&mut self) -> Result<Call, Unclear> {
         let rfci = self.number()?;
         let fqc = self.number()?;
         let payload = self.octets()?;
@@ -143,7 +150,7 @@ impl Cursor<'_> {
         }
     }
 
-    fn at(&mut self, end: End) -> Result<Command, Misread> {
+    fn at(&mut self, end: End) -> Result<Command, Unclear> {
         let call = match read_request(self.word()?)? {
             Request::Open => return Ok(Command::Open(end)),
             Request::Start => Call::Start,
@@ -172,8 +179,8 @@ impl Cursor<'_> {
 }
 
 // A line is understood as a whole: nothing may follow what it asks for.
-pub(crate) fn understand(line: &[u8], alloc: Global) -> Result<Command, Misread> {
-    let mut cursor = Cursor::new(line, alloc);
+pub(crate) fn understand(line: &[u8]) -> Result<Command, Unclear> {
+    let mut cursor = Cursor::new(line);
     let command = match read_verb(cursor.word()?)? {
         Verb::Draft => cursor.draft()?,
         Verb::Add => cursor.combination()?,

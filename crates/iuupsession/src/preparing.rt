@@ -1,5 +1,6 @@
 // What is prepared before an end is opened: the draft, the closed set, the settings, and the size of the next line.
 use crate::answer::{Complaint, Missing};
+use crate::command::Addition;
 use bearer::settings::Settings;
 use cells::count::CellCount;
 use ring::size::RingSize;
@@ -37,9 +38,9 @@ impl Prepared {
         self.draft = Some(Draft::open(opening));
     }
 
-    pub(crate) fn add(&mut self, rfci: u8, ipti: u8, sizes: &[u16]) -> Result<(), Complaint> {
+    pub(crate) fn add(&mut self, addition: Addition) -> Result<(), Complaint> {
         let draft = self.draft.as_mut().ok_or(Missing::Draft)?;
-        Ok(draft.add(rfci, ipti, sizes)?)
+        Ok(draft.add(addition.rfci, addition.ipti, addition.sizes.as_slice())?)
     }
 
     // An empty draft stays open.

@@ -1,41 +1,31 @@
 // The words of a line, read one by one.
 use frames::hex::read_hex;
 use frames::octets::LONGEST;
+use frames::row::Row;
 use script::numbers::{Number, read_number};
 use script::unclear::Unclear;
 use script::words::Words;
-use std::alloc::{AllocError, Global};
+use sets::limits::MOST_SUBFLOWS;
 
-// Why a line was not read: it is not understood, or there is no memory for what it says.
-#[derive(Debug, Drop)]
-pub enum Misread {
-    Unclear(Unclear),
-    Memory(AllocError),
-}
+const SIZES_KEPT: usize = MOST_SUBFLOWS + 1;
 
-impl From<Unclear> for Misread {
-    fn from(unclear: Unclear) -> Misread {
-        Misread::Unclear(unclear)
-    }
-}
+const OCTETS_KEPT: usize = LONGEST + 1;
 
-impl From<AllocError> for Misread {
-    fn from(error: AllocError) -> Misread {
-        Misread::Memory(error)
-    }
-}
+// Sizes of subflows: one more than a combination can have is kept, since all longer lists are refused alike.
+pub type Sizes = Row<u16, SIZES_KEPT>;
+
+// Octets: one more than a frame can have is kept, since all longer ones are refused alike.
+pub type Message = Row<u8, OCTETS_KEPT>;
 
 #[derive(Drop)]
 pub struct Cursor<'a> {
     words: Words<'a>,
-    alloc: Global,
 }
 
 impl<'a> Cursor<'a> {
-    pub(crate) fn new(line: &'a [u8], alloc: Global) -> Cursor<'a> {
+    pub(crate) fn new(line: &'a [u8]) -> Cursor<'a> {
         Cursor {
             words: Words::of(line),
-            alloc,
         }
     }
 
@@ -55,30 +45,32 @@ impl<'a> Cursor<'a> {
         read_number(self.word()?)
     }
 
-    // All words that are left are sizes.
-    pub(crate) fn sizes(&mut self) -> Result<Vec<u16>, Misread> {
-        let mut sizes = Vec::new(self.alloc);
+    // All words that are left are sizes, also those that a full row does not take.
+    pub(crate) fn sizes(&mut self) -> Result<Sizes, Unclear> {
+        let mut sizes = Sizes::new();
         for word in self.words.by_ref() {
-            sizes.push(read_number(word)?).map_err(AllocError::from)?;
+            let _ = sizes.push(read_number(word)?);
         }
         Ok(sizes)
     }
 
     // A word of hexadecimal digits, or - for no octets.
-    pub(crate) fn octets(&mut self) -> Result<Vec<u8>, Misread> {
+    pub(crate) fn octets(&mut self) -> Result<Message, Unclear> {
         match self.word()? {
-            b"-" => Ok(Vec::new(self.alloc)),
-            digits => read_octets(digits, self.alloc),
+            b"-" => Ok(Message::new()),
+            digits => read_octets(digits),
         }
     }
 }
 
-// Octets may be more than a frame has: the call that takes them refuses them then.
-fn read_octets(digits: &[u8], alloc: Global) -> Result<Vec<u8>, Misread> {
-    let mut octets = Vec::new(alloc);
+// All digits are looked at, also those of octets that a full row does not take.
+fn read_octets(digits: &[u8]) -> Result<Message, Unclear> {
+    let mut octets = Message::new();
     for piece in digits.chunks(2 * LONGEST) {
         let part = read_hex(piece).or(Err(Unclear::Value))?;
-        octets.extend_from_slice(part.as_slice())?;
+        for octet in part.as_slice() {
+            let _ = octets.push(*octet);
+        }
     }
     Ok(octets)
 }

@@ -4,14 +4,12 @@ use crate::command::{Call, Command, understand};
 use crate::driving::drive;
 use crate::preparing::{LineSize, Prepared};
 use crate::printing::Said;
-use crate::reading::Misread;
 use cells::cells::Cells;
 use radio_end::state::RadioEnd;
 use reports::report::Report;
 use ring::ring::Ring;
 use script::names::End;
 use script::words::Words;
-use std::alloc::Global;
 use std::io;
 use std::io::Write;
 
@@ -27,7 +25,8 @@ enum Radio {
 pub struct Session {
     prepared: Prepared,
     radio: Option<Radio>,
-    alloc: Global,
+    // of the line that is played: one for all, since it is two kibibytes
+    report: Report,
 }
 
 // Blank lines and remarks ask for nothing.
@@ -36,11 +35,11 @@ fn is_silent(line: &[u8]) -> bool {
 }
 
 impl Session {
-    pub(crate) fn new(alloc: Global) -> Session {
+    pub(crate) fn new() -> Session {
         Session {
             prepared: Prepared::new(),
             radio: None,
-            alloc,
+            report: Report::new(),
         }
     }
 
@@ -55,8 +54,9 @@ impl Session {
         Ok(())
     }
 
-    fn call_radio(&mut self, call: Call, report: &mut Report) -> Result<Answer, Complaint> {
+    fn call_radio(&mut self, call: Call) -> Result<Answer, Complaint> {
         let set = self.prepared.set;
+        let report = &mut self.report;
         match &mut self.radio {
             Some(Radio::OverCells(radio)) => drive(radio, call, set, report),
             Some(Radio::OverRing(radio)) => drive(radio, call, set, report),
@@ -64,20 +64,35 @@ impl Session {
         }
     }
 
-    fn obey(&mut self, command: Command, report: &mut Report) -> Result<Answer, Complaint> {
+    // What prepares, done or complained of: it makes no answer, which has room for a set and is written over at each line.
+    fn prepare(&mut self, command: Command) -> Result<(), Complaint> {
         match command {
             Command::Draft(opening) => self.prepared.open_draft(opening?),
-            Command::Add { rfci, ipti, sizes } => self.prepared.add(rfci, ipti, sizes.as_slice())?,
+            Command::Add(addition) => self.prepared.add(addition)?,
             Command::Close => self.prepared.close()?,
             Command::Settings(settings) => self.prepared.settings = Some(settings?),
             Command::Line(size) => self.prepared.size = Some(size?),
             Command::Open(End::Radio) => self.open_radio()?,
-            Command::At(End::Radio, call) => return self.call_radio(call, report),
-            Command::Open(End::Core) | Command::At(End::Core, _) | Command::Carry(_) => {
+            Command::Open(End::Core) | Command::At(_, _) | Command::Carry(_) => {
                 return Err(Complaint::Missing(Missing::CoreEnd));
             }
         }
-        Ok(Answer::Done)
+        Ok(())
+    }
+
+    // What the line asks for is done, and its answer written.
+    fn obey(&mut self, command: Command, out: &mut impl Write) -> io::Result<()> {
+        let complaint = match command {
+            Command::At(End::Radio, call) => match self.call_radio(call) {
+                Ok(answer) => return writeln!(out, "{answer}"),
+                Err(complaint) => complaint,
+            },
+            command => match self.prepare(command) {
+                Ok(()) => return out.write_all(b"ok\n"),
+                Err(complaint) => complaint,
+            },
+        };
+        writeln!(out, "{complaint}")
     }
 
     // One line of the script: its echo, what it answers, and each entry of the report.
@@ -88,17 +103,13 @@ impl Session {
         out.write_all(b"> ")?;
         out.write_all(line)?;
         out.write_all(b"\n")?;
-        let command = match understand(line, self.alloc) {
+        let command = match understand(line) {
             Ok(command) => command,
-            Err(Misread::Unclear(unclear)) => return writeln!(out, "? {unclear}"),
-            Err(Misread::Memory(error)) => return Err(error.into()),
+            Err(unclear) => return writeln!(out, "? {unclear}"),
         };
-        let mut report = Report::new();
-        match self.obey(command, &mut report) {
-            Ok(answer) => writeln!(out, "{answer}")?,
-            Err(complaint) => writeln!(out, "{complaint}")?,
-        }
-        for happening in report.happenings() {
+        self.report.clear();
+        self.obey(command, out)?;
+        for happening in self.report.happenings() {
             writeln!(out, "  {}", Said(*happening))?;
         }
         Ok(())

@@ -20,8 +20,8 @@ fn print_answer(answer: Result<Header, Refusal>, out: &mut impl Write) -> io::Re
 fn show_lines(piece: &[u8], open: &mut Option<Gathered>, out: &mut impl Write) -> io::Result<()> {
     for byte in piece {
         if *byte == b'\n' {
-            let line = open.take().unwrap_or_else(Gathered::new);
-            print_answer(line.show(), out)?;
+            print_answer(open.get_or_insert_with(Gathered::new).show(), out)?;
+            *open = None;
         } else {
             open.get_or_insert_with(Gathered::new).push(*byte);
         }

@@ -26,14 +26,15 @@ const LENGTHS: [usize; 6] = [1, 512, 2, 511, 255, 256];
 
 // The frame with this serial number: its octets differ from frame to frame and from place to place.
 fn frame_of(serial: usize) -> Octets {
+    let length = LENGTHS[serial % 6];
+    let mut octets = [0; LONGEST];
     let mut octet = (serial % 251) as u8;
-    let mut frame = Octets::new();
-    for _ in 0..LENGTHS[serial % 6] {
-        // octets are repeated, and nothing is indexed; no length is more than a frame has
-        let _ = frame.push(octet);
+    for place in octets.iter_mut().take(length) {
+        *place = octet;
         octet = octet.wrapping_mul(5).wrapping_add(7);
     }
-    frame
+    // no length is more than a frame has
+    Octets::of_slice(&octets[..length.min(LONGEST)]).unwrap_or(Octets::new())
 }
 
 fn all_stale(octets: &[u8]) -> bool {

@@ -3,15 +3,15 @@ ghost use Rattle.std.specs.Prelude.{◌≡◌, ◌≤◌, length, if◌then◌el
 ghost use Rattle.sets.specs.Contents.{SoundDraft};
 
 use sets::combination::Combination;
-use sets::draft::Draft;
+use sets::drafted::Drafted;
 use sets::opening::Opening;
 use std::marker::Model;
 
 // `draft` has the combinations of the links so far; one at least once the last link is read, so that it can be closed.
 // `links` counts them: it stays known once `complete`, so that an `Option` of the number awaited would say less.
-#[derive(Drop)]
+#[derive(Clone, Copy)]
 pub struct Held {
-    pub(crate) draft: Draft,
+    pub(crate) draft: Drafted,
     pub(crate) versions: u16,
     pub(crate) links: u8,
     pub(crate) complete: bool,
@@ -26,6 +26,8 @@ impl Model for Held {
     ghost view = { λ h. record { contents = h.draft; versions = h.versions; links = h.links; complete = h.complete } };
 
     ghost invariant = { λ h. (if h.complete then 1 else 0) ≤ length h.draft.combinations };
+
+    ghost inverse = { λ l. record { draft = l.contents; versions = l.versions; links = l.links; complete = l.complete } };
 }
 
 impl Held {
@@ -71,7 +73,7 @@ impl Held {
         ensures { result ≡ self.now }
     {
         Held {
-            draft: self.draft.copied(),
+            draft: self.draft,
             versions: self.versions,
             links: self.links,
             complete: self.complete,

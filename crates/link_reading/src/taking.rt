@@ -22,7 +22,7 @@ impl Held {
         ensures back { ReadsBack }
     {
         Held {
-            draft: Draft::open(Opening::smallest()),
+            draft: Draft::open(Opening::smallest()).drafted(),
             versions: 0,
             links: 0,
             complete: false,
@@ -57,7 +57,7 @@ impl Held {
         if number == 0 {
             Draft::open(opening)
         } else {
-            self.draft.copied()
+            Draft::resume(&self.draft)
         }
     }
 
@@ -77,7 +77,7 @@ impl Held {
         let mut draft = self.begun(number, opening);
         admit(&mut draft, payload, fields).or(Err(Refusal::UnexpectedValue))?;
         *self = Held {
-            draft,
+            draft: draft.drafted(),
             versions: fields.versions,
             links: number + 1,
             complete: !fields.chain,
@@ -103,6 +103,6 @@ impl Held {
         if !self.complete {
             return false;
         }
-        self.draft.close_copy(place).is_ok()
+        self.draft.close(place).is_ok()
     }
 }

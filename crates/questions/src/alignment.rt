@@ -21,7 +21,7 @@ use reports::ending::{Ending, Kind};
 use std::marker::Model;
 
 // It is known by the octet that asks for the shift.
-#[derive(Drop)]
+#[derive(Clone, Copy)]
 pub struct AlignmentQuestion {
     shift: Shift,
 }
@@ -32,6 +32,8 @@ impl Model for AlignmentQuestion {
     ghost Value = { ℕ };
 
     ghost view = { λ q. q.shift };
+
+    ghost inverse = { λ octet. record { shift = octet } };
 }
 
 impl AlignmentQuestion {
@@ -39,6 +41,12 @@ impl AlignmentQuestion {
         ensures { result ≡ shift }
     {
         AlignmentQuestion { shift }
+    }
+
+    pub fn shift(&self) -> Shift
+        ensures { result ≡ self.now }
+    {
+        self.shift
     }
 }
 

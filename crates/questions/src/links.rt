@@ -25,7 +25,7 @@ use std::marker::Model;
 // The octets before the payload of a control frame.
 const HEADER: usize = 4;
 
-#[derive(Drop)]
+#[derive(Clone, Copy)]
 pub struct Links {
     set: Set,
 }
@@ -36,6 +36,8 @@ impl Model for Links {
     ghost Value = { Contents };
 
     ghost view = { λ q. q.set };
+
+    ghost inverse = { λ c. record { set = c } };
 }
 
 impl Links {

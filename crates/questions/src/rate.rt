@@ -22,7 +22,7 @@ use std::marker::Model;
 
 // Beside the other kinds it differs in its payload, in its endings and in what an answer leads to, which is all that an impl of the trait says:
 // one struct for them would be a generic with the same members again.
-#[derive(Drop)]
+#[derive(Clone, Copy)]
 pub struct RateQuestion {
     mask: RateMask,
 }
@@ -33,6 +33,8 @@ impl Model for RateQuestion {
     ghost Value = { List Bool };
 
     ghost view = { λ q. q.mask };
+
+    ghost inverse = { λ bars. record { mask = bars } };
 }
 
 impl RateQuestion {
@@ -40,6 +42,12 @@ impl RateQuestion {
         ensures { result ≡ mask }
     {
         RateQuestion { mask }
+    }
+
+    pub fn mask(&self) -> &RateMask
+        ensures { result.now ≡ self.now }
+    {
+        &self.mask
     }
 }
 

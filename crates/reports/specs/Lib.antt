@@ -1,3 +1,4 @@
 pub mod Endings
 pub mod Said
 pub mod Effects
+pub mod Blanks

@@ -72,7 +72,8 @@ impl Store for RingStore {
         let start = out
             .first_chunk_mut::<LONGEST>()
             .ok_or(Refusal::BufferTooSmall)?;
-        if self.octets.used() == 0 {
+        let none = self.octets.used() == 0;
+        if none {
             return Ok(None);
         }
         let (high, low) = self.octets.read_pair();

@@ -62,10 +62,10 @@ no_words cs e =
     let past : length cs ≤ position_or_len is_letter cs = grind (arith, nat_tests) in
     blank_line cs past
 
--- the first word of a line begins with the first letter
-pub word_from : (cs : List ℕ) (n : ℕ) → position is_letter cs ≡ Some n → (n < length cs) × (words_of cs ≡ take (position_or_len is_blank (drop n cs)) (drop n cs) ∷ words_of (drop (position_or_len is_blank (drop n cs)) (drop n cs)))
+-- the first word of a line begins with the first letter, and has it
+pub word_from : (cs : List ℕ) (n : ℕ) → position is_letter cs ≡ Some n → (n < length cs) × (0 < position_or_len is_blank (drop n cs)) × (words_of cs ≡ take (position_or_len is_blank (drop n cs)) (drop n cs) ∷ words_of (drop (position_or_len is_blank (drop n cs)) (drop n cs)))
 word_from cs n e =
     let found = position-Some is_letter cs n 0 e in
     let place : position_or_len is_letter cs ≡ n = grind (arith, nat_tests) in
     let some : 0 < position_or_len is_blank (drop n cs) = omega (arith, prefix_len-drop_yes is_letter cs n 0 found.0 found.1) in
-    (found.0, sym (blanks_skipped cs) ∙ rw place (first_word (drop n cs) some))
+    (found.0, some, sym (blanks_skipped cs) ∙ rw place (first_word (drop n cs) some))

@@ -1,5 +1,6 @@
 -- The words of a line: what stands between blanks.
-use Rattle.std.specs.Prelude.{ℕ, Bool, false, cond, not, ◌||◌, List, [], ◌∷◌, ◌==◌}
+use Rattle.std.specs.Prelude.{ℕ, Bool, false, cond, not, ◌||◌, List, [], ◌∷◌, Some, None, Option, ◌==◌}
+use Rattle.script.specs.declared.words.Split.{Split}
 
 -- space, tabulator, and the carriage return that some makers put before a line feed
 abbrev pub is_blank : ℕ → Bool
@@ -23,3 +24,8 @@ unfoldable pub words_of : List ℕ → List (List ℕ)
 words_of [] = []
 words_of (c ∷ cs) =
     cond (is_blank c) (words_of cs) (cond (goes_on cs) (before c (words_of cs)) ((c ∷ []) ∷ words_of cs))
+
+-- the words of a line that was split
+abbrev pub listed : Option Split → List (List ℕ)
+listed None = []
+listed (Some s) = s.word.now ∷ words_of s.rest.now

@@ -1,6 +1,7 @@
 // Decimal numbers.
-ghost use Rattle.std.specs.Prelude.{◌≡◌, ℕ, option_map, cond};
+ghost use Rattle.std.specs.Prelude.{◌≡◌, ℕ, ◌==◌, ◌≤◌, Err, IfOk, cond, length, ok_or, option_map};
 ghost use Rattle.script.specs.Numbers.{decimal_on, number_in, read_as, up_to};
+ghost use Rattle.script.specs.declared.unclear.Unclear.TheVariants.{Value};
 
 use crate::unclear::Unclear;
 
@@ -77,13 +78,30 @@ fn decimal(word: &[u8]) -> Option<u64>
     Some(value)
 }
 
-// The number that a word of digits writes, where its type holds it.
-pub fn read_number<N: Number>(word: &[u8]) -> Result<N, Unclear>
-    ensures { read_as N.value result ≡ number_in N.most word.now }
+// The number that a word writes which is digits alone, at least one.
+fn read_decimal(word: &[u8]) -> Result<u64, Unclear>
+    ensures { result ≡ cond (length word.now == 0) (Err Value) (ok_or (decimal_on 0 word.now) Value) }
 {
     if word.is_empty() {
         return Err(Unclear::Value);
     }
-    let number = decimal(word).ok_or(Unclear::Value)?;
-    N::of(number).ok_or(Unclear::Value)
+    decimal(word).ok_or(Unclear::Value)
+}
+
+// The number that a word of digits writes, where its type holds it.
+pub fn read_number<N: Number>(word: &[u8]) -> Result<N, Unclear>
+    ensures { read_as N.value result ≡ number_in N.most word.now }
+{
+    N::of(read_decimal(word)?).ok_or(Unclear::Value)
+}
+
+// A number from 0 to `most`, for a bound that no type has.
+pub fn read_number_up_to(word: &[u8], most: u64) -> Result<u64, Unclear>
+    ensures is { result ≡ number_in most word.now }
+    ensures few { IfOk result (λ n. n ≤ most) }
+{
+    match read_decimal(word)? {
+        number if number <= most => Ok(number),
+        _ => Err(Unclear::Value),
+    }
 }

@@ -1,9 +1,17 @@
 // The words of a line: what stands between blanks.
-ghost use Rattle.std.specs.Prelude.{◌≡◌, ◌≤◌, length, not, position};
+ghost use Rattle.std.specs.Prelude.{◌≡◌, ◌<◌, ◌≤◌, length, not, position};
 ghost use Rattle.std.specs.List.{position_or_len};
-ghost use Rattle.script.specs.Words.{is_blank, is_letter, words_of};
+ghost use Rattle.std.specs.Option.{IfSome};
+ghost use Rattle.script.specs.Words.{is_blank, is_letter, listed, words_of};
 
 use std::marker::Model;
+
+// The first word of a line, and what follows it.
+#[derive(Clone, Copy)]
+pub struct Split<'a> {
+    pub word: &'a [u8],
+    pub rest: &'a [u8],
+}
 
 // The words that are left of a line.
 #[derive(Drop)]
@@ -56,6 +64,17 @@ fn word_end(text: &[u8]) -> usize
     first_blank(text).unwrap_or(text.len())
 }
 
+// None where a line has no word.
+pub fn next_word(line: &[u8]) -> Option<Split<'_>>
+    ensures words { words_of line.now ≡ listed result }
+    ensures shorter { IfSome result (λ s. length s.rest.now < length line.now) }
+{
+    let start = first_letter(line)?;
+    let text = &line[start..];
+    let (word, rest) = text.split_at(word_end(text));
+    Some(Split { word, rest })
+}
+
 impl<'a> Iterator for Words<'a> {
     ghost use Rattle.std.specs.Iterator.{YieldsFirstBy, item_count};
 
@@ -66,10 +85,8 @@ impl<'a> Iterator for Words<'a> {
     ghost remaining = { item_count (λ words. words) };
 
     fn next(&mut self) -> Option<&'a [u8]> {
-        let start = first_letter(self.line)?;
-        let text = &self.line[start..];
-        let (word, rest) = text.split_at(word_end(text));
-        self.line = rest;
-        Some(word)
+        let split = next_word(self.line)?;
+        self.line = split.rest;
+        Some(split.word)
     }
 }

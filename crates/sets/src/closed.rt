@@ -1,4 +1,4 @@
-// Drafts closed into sets. What links and data rely on holds of every set, since closing a draft is the only way to one.
+// Drafts closed into sets. What links and data rely on holds of every set, since closing a draft, or what one said, is the only way to one.
 ghost use Rattle.std.specs.Prelude.{◌≡◌};
 ghost use Rattle.sets.specs.Closing.{closed_by, closing, placed_by};
 ghost use Rattle.sets.specs.Contents.{ClosedSet};
@@ -6,6 +6,7 @@ ghost use Rattle.sets.specs.Tables.{contents, SoundTable};
 
 use super::combination::Combination;
 use super::draft::Draft;
+use super::drafted::Drafted;
 use super::opening::Opening;
 use super::table::Table;
 use frames::refusal::Refusal;
@@ -87,8 +88,20 @@ impl Draft {
         ensures answer { result ≡ closing self.now }
         ensures place { place.new ≡ placed_by self.now place.old }
     {
-        self.copied()
-            .close(place)
-            .map_err(|unclosed| unclosed.refusal)
+        self.drafted().close(place)
+    }
+}
+
+impl Drafted {
+    // The same of a draft that says this. The table is copied once, right into the set.
+    pub fn close(&self, place: &mut Option<Set>) -> Result<(), Refusal>
+        ensures answer { result ≡ closing self.now }
+        ensures place { place.new ≡ placed_by self.now place.old }
+    {
+        if self.rows().is_empty() {
+            return Err(Refusal::NoCombination);
+        }
+        *place = Some(Set { table: self.table });
+        Ok(())
     }
 }

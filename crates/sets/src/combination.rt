@@ -6,11 +6,12 @@ use super::limits::MOST_SUBFLOWS;
 use frames::row::{Blank, Row};
 use std::marker::Model;
 
+// Fields lie in the order of the source: the small ones stand together, so that no octets are lost between them.
 #[derive(Clone, Copy, PartialEq, Eq, Debug)]
 pub struct Combination {
+    sizes: Row<u16, MOST_SUBFLOWS>,
     rfci: u8,
     ipti: u8,
-    sizes: Row<u16, MOST_SUBFLOWS>,
     allowed: bool,
 }
 

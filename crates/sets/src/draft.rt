@@ -6,6 +6,7 @@ ghost use Rattle.sets.specs.Contents.{opened, SoundDraft};
 ghost use Rattle.sets.specs.Drafts.{sized, admitted_to, added};
 
 use super::combination::Combination;
+use super::drafted::Drafted;
 use super::limits::{HIGHEST_IPTI, HIGHEST_RFCI, MOST_BITS, MOST_COMBINATIONS, MOST_SUBFLOWS};
 use super::opening::Opening;
 use super::table::Table;
@@ -91,6 +92,22 @@ impl Draft {
         ensures { result ≡ self.now }
     {
         Draft { table: self.table }
+    }
+
+    // What it says, to be kept.
+    pub fn drafted(&self) -> Drafted
+        ensures { result ≡ self.now }
+    {
+        Drafted { table: self.table }
+    }
+
+    // A draft that says what was kept.
+    pub fn resume(drafted: &Drafted) -> Draft
+        ensures { result ≡ drafted.now }
+    {
+        Draft {
+            table: drafted.table,
+        }
     }
 
     // The table of the draft, which is no draft any more.

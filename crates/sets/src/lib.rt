@@ -5,6 +5,7 @@
 pub mod closed;
 pub mod combination;
 pub mod draft;
+pub mod drafted;
 pub mod limits;
 pub mod opening;
 pub mod table;

@@ -54,7 +54,7 @@ impl Bench {
         Ok(Answer::Closed { set, in_force })
     }
 
-    pub(crate) fn obey(&mut self, order: Order) -> Result<Answer, Complaint> {
+    pub(crate) fn obey(&mut self, order: Order<'_>) -> Result<Answer, Complaint> {
         match order {
             Order::Draft {
                 subflows,
@@ -66,13 +66,16 @@ impl Bench {
             }
             Order::Add { rfci, ipti, sizes } => {
                 let draft = self.draft.as_mut().ok_or(Complaint::NoDraft)?;
-                draft.add(rfci, ipti, &sizes)?;
+                draft.add(rfci, ipti, sizes)?;
                 Ok(Answer::Done)
             }
             Order::Close => self.close(),
             Order::Find { sizes } => {
-                let set = self.set.ok_or(Complaint::Refused(Refusal::WrongPhase))?;
-                let rfci = set.search(&sizes)?;
+                let set = self
+                    .set
+                    .as_ref()
+                    .ok_or(Complaint::Refused(Refusal::WrongPhase))?;
+                let rfci = set.search(sizes)?;
                 Ok(Answer::Found { rfci })
             }
         }

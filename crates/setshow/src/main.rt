@@ -11,14 +11,18 @@ mod orders;
 mod showing;
 
 use bench::{Bench, Complaint};
-use orders::{Misread, read_order};
+use orders::{Misread, read_numbers, read_order};
 use std::io;
 
 fn main(rt: HostRuntime) -> io::Result<()> {
     let mut bench = Bench::new();
     for line in rt.lines(rt.alloc()) {
-        let answer = match read_order(line?.as_str(), rt.alloc()) {
-            Ok(order) => bench.obey(order),
+        let line = line?;
+        let answer = match read_numbers(line.as_str(), rt.alloc()) {
+            Ok(numbers) => match read_order(line.as_str(), numbers.as_slice()) {
+                Some(order) => bench.obey(order),
+                None => Err(Complaint::Unclear),
+            },
             Err(Misread::Unclear) => Err(Complaint::Unclear),
             Err(Misread::Memory(error)) => return Err(error.into()),
         };

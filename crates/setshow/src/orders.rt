@@ -3,8 +3,9 @@ use std::alloc::{AllocError, Global};
 use std::num::ParseIntError;
 
 // `draft` and `add` are as in a session, of which this program knows nothing: a common type would tie the two languages together.
-#[derive(Drop)]
-pub enum Order {
+// The sizes are lent by the numbers of the line.
+#[derive(Clone, Copy)]
+pub enum Order<'a> {
     Draft {
         subflows: u8,
         timed: bool,
@@ -13,11 +14,11 @@ pub enum Order {
     Add {
         rfci: u8,
         ipti: u8,
-        sizes: Vec<u16>,
+        sizes: &'a [u16],
     },
     Close,
     Find {
-        sizes: Vec<u16>,
+        sizes: &'a [u16],
     },
 }
 
@@ -26,7 +27,7 @@ fn octet(number: u16) -> u8 {
     u8::try_from(number).unwrap_or(u8::MAX)
 }
 
-// Why a line gives no order: it is not understood, or there is no memory for what it says.
+// Why a line gives no numbers: it is not understood, or there is no memory for them.
 #[derive(Debug, Drop)]
 pub enum Misread {
     Unclear,
@@ -46,7 +47,7 @@ impl From<AllocError> for Misread {
 }
 
 // The numbers behind the first word of a line.
-fn numbers(line: &str, alloc: Global) -> Result<Vec<u16>, Misread> {
+pub(crate) fn read_numbers(line: &str, alloc: Global) -> Result<Vec<u16>, Misread> {
     let mut numbers = Vec::new(alloc);
     for word in line.split_whitespace().skip(1) {
         numbers.push(word.parse()?).map_err(AllocError::from)?;
@@ -54,24 +55,21 @@ fn numbers(line: &str, alloc: Global) -> Result<Vec<u16>, Misread> {
     Ok(numbers)
 }
 
-// The order in a line.
-pub(crate) fn read_order(line: &str, alloc: Global) -> Result<Order, Misread> {
-    let numbers = numbers(line, alloc)?;
-    match (line.split_whitespace().next(), numbers.as_slice()) {
-        (Some("draft"), [subflows, timed, data_type]) => Ok(Order::Draft {
+// The order in a line with these numbers, if it is understood.
+pub(crate) fn read_order<'a>(line: &str, numbers: &'a [u16]) -> Option<Order<'a>> {
+    match (line.split_whitespace().next(), numbers) {
+        (Some("draft"), [subflows, timed, data_type]) => Some(Order::Draft {
             subflows: octet(*subflows),
             timed: *timed != 0,
             data_type: octet(*data_type),
         }),
-        (Some("add"), [rfci, ipti, sizes @ ..]) => Ok(Order::Add {
+        (Some("add"), [rfci, ipti, sizes @ ..]) => Some(Order::Add {
             rfci: octet(*rfci),
             ipti: octet(*ipti),
-            sizes: Vec::from_slice(alloc, sizes)?,
+            sizes,
         }),
-        (Some("close"), []) => Ok(Order::Close),
-        (Some("find"), sizes) => Ok(Order::Find {
-            sizes: Vec::from_slice(alloc, sizes)?,
-        }),
-        _ => Err(Misread::Unclear),
+        (Some("close"), []) => Some(Order::Close),
+        (Some("find"), sizes) => Some(Order::Find { sizes }),
+        _ => None,
     }
 }

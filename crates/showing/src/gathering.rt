@@ -4,8 +4,11 @@ ghost use Rattle.showing.specs.Shown.{shown, gathered, joined};
 
 use frames::header::{Header, read_header};
 use frames::hex::read_pair;
-use frames::octets::Octets;
+use frames::octets::{LONGEST, Octets};
 use frames::refusal::Refusal;
+
+// The most digits of which the octets are kept: those of the longest frame. A line that is longer is refused.
+pub const KEPT: usize = 2 * LONGEST;
 
 #[derive(Clone, Copy, PartialEq, Eq, Debug)]
 pub struct Gathered {
@@ -47,13 +50,16 @@ impl Gathered {
         if self.first.is_some() {
             return Err(Refusal::Hexadecimal);
         }
-        let octets = self.frame?;
-        read_header(octets.as_slice())
+        match &self.frame {
+            Ok(octets) => read_header(octets.as_slice()),
+            Err(refusal) => Err(*refusal),
+        }
     }
 }
 
 // One octet more. A strange digit is told before all else, and what is too long stays so.
 // In place, not by `?`: a frame that comes out by value is copied at each octet, and long lines took seven times as long. One match of both took 7 % longer.
+// A refusal is written over alone: with the whole frame, lines of strange digits took twice as long.
 fn join(frame: &mut Result<Octets, Refusal>, octet: Result<u8, Refusal>)
     ensures { frame.new ≡ joined frame.old octet }
 {
@@ -65,6 +71,28 @@ fn join(frame: &mut Result<Octets, Refusal>, octet: Result<u8, Refusal>)
                 }
             }
         }
-        Err(refusal) => *frame = Err(refusal),
+        Err(refusal) => match frame {
+            Ok(_) => *frame = Err(refusal),
+            Err(told) => *told = refusal,
+        },
+    }
+}
+
+#[cfg(test)]
+mod tests {
+    use super::*;
+
+    // So many digits are a frame's; a pair more is too much for one.
+    #[test]
+    fn kept(rt: HostRuntime) {
+        let mut line = Gathered::new();
+        for digit in &[b'0'; KEPT] {
+            line.push(*digit);
+        }
+        assert!(rt; line.show().is_ok());
+        line.push(b'0');
+        assert!(rt; line.show() == Err(Refusal::Hexadecimal));
+        line.push(b'0');
+        assert!(rt; line.show() == Err(Refusal::TooLong));
     }
 }

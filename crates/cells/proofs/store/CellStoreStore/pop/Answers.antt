@@ -3,12 +3,13 @@ use Rattle.std.specs.Array.{IsFirstChunk}
 use Rattle.lines.proofs.Queues.{popped_none, popped_first, laid}
 use Rattle.lines.proofs.Turns.{lost_none, lost_some}
 use Rattle.cells.specs.Standing.{standing}
-use Rattle.cells.proofs.Puts.{frames_none, frames_first}
+use Rattle.cells.proofs.Puts.{lost_one, frames_none, frames_first}
 use Rattle.cells.proofs.store.CellStoreStore.pop.Goals as goal
 
 pub returns-in_default-clause-frames : goal.returns-in_default-clause-frames
 returns-in_default-clause-frames c =
-    let kept = lost_none 1 c.self.inside.turning c.lose.new.self c.lose.result c.lose.ensures.at c.lose.ensures.turning (search rules) in
+    let one = lost_one _ c.self.inside.turning c.lose.new.self c.lose.result c.lose.ensures.at c.lose.ensures.turning (search rules) in
+    let kept = lost_none 1 c.self.inside.turning c.lose.new.self c.lose.result one.0 one.1 (search rules) in
     let chunk : IsFirstChunk c.args.out.now c.in_ok-start.start.now 512 = search rules in
     popped_none (λ s. s.frames) c.args.self.now _ c.args.out.now _ _ chunk.enough
     (frames_none c.self.inside.cells c.self.inside.turning c.self.invariant c.args.self.now c.self.view_is kept.0)
@@ -17,7 +18,8 @@ returns-in_default-clause-frames c =
 
 pub returns-clause-frames : goal.returns-clause-frames
 returns-clause-frames c =
-    let less = lost_some 1 c.self.inside.turning c.lose.new.self c.lose.result c.lose.ensures.at c.lose.ensures.turning c.in-Some.first c.in-Some.is in
+    let one = lost_one _ c.self.inside.turning c.lose.new.self c.lose.result c.lose.ensures.at c.lose.ensures.turning (search rules) in
+    let less = lost_some 1 c.self.inside.turning c.lose.new.self c.lose.result one.0 one.1 c.in-Some.first c.in-Some.is in
     let chunk : IsFirstChunk c.args.out.now c.in_ok-start.start.now 512 = search rules in
     let o = c.args.out.now in
     let f = get_or c.self.inside.cells c.in-Some.first c.index-self-first.result in

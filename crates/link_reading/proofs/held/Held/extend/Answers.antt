@@ -96,8 +96,9 @@ returns c =
     let b = ap (λ (d : Contents). add_all f.subflows f.timed d.combinations (rows_of f os)) c.begun-draft.ensures in
     let e = ruled-rows h k os f o (Some R) r (sym c.if-not-may_come.ensures) (x ∙ c.admit.ensures.rows ∙ b) in
     let w : c.admit.new.draft.opening ≡ o = c.admit.ensures.opening ∙ ap (λ (d : Contents). d.opening) c.begun-draft.ensures in
-    let g : (s : Values) → Links = λ s. record { contents = record { opening = s; combinations = R }; versions = f.versions; links = k + 1; complete = not f.chain } in
-    record { answer = sym (ap answer e); held = ap g w ∙ sym (ap (after h) e) }
+    let g : (d : Contents) → Links = λ d. record { contents = d; versions = f.versions; links = k + 1; complete = not f.chain } in
+    let v = ap (λ (s : Values). g (record { opening = s; combinations = R })) w in
+    record { answer = sym (ap answer e); held = ap g c.drafted.ensures ∙ v ∙ sym (ap (after h) e) }
 
 pub invariant_of-self : goal.invariant_of-self
 invariant_of-self c =
@@ -108,5 +109,7 @@ invariant_of-self c =
     let x = kept_added c.admit.result _ UnexpectedValue R c.in_ok-or.ensures in
     let a = all_length f.subflows f.timed c.begun-draft.result.combinations (rows_of f os) R (x ∙ c.admit.ensures.rows) in
     let l = rows_in-length f.count f.subflows (drop 1 os) (halves_from f.timed f.place os) in
-    let one : 1 ≤ length R = omega (arith, r.some) in
-    cond_both (not f.chain) 1 0 (λ x. x ≤ length R) (λ e. one) (λ e. omega arith)
+    let d = c.drafted.result.combinations in
+    let q = ap (λ (d : Contents). length d.combinations) c.drafted.ensures in
+    let one : 1 ≤ length d = omega (arith, r.some) in
+    cond_both (not f.chain) 1 0 (λ x. x ≤ length d) (λ e. one) (λ e. omega arith)

@@ -6,8 +6,8 @@ use Rattle.ring.specs.Packed.{frames_in, Sound}
 use Rattle.ring.proofs.Packs.{frames_none, frames_pop, sound_pop, read_fits, pair}
 use Rattle.ring.proofs.store.RingStoreStore.pop.Goals as goal
 
-pub returns-then-used-eq0-clause-frames : goal.returns-then-used-eq0-clause-frames
-returns-then-used-eq0-clause-frames c =
+pub returns-then-none-clause-frames : goal.returns-then-none-clause-frames
+returns-then-none-clause-frames c =
     let o = c.args.out.now in
     let chunk : IsFirstChunk o c.in_ok-start.start.now 512 = search rules in
     let bare : length c.self.inside.octets.content ≡ 0 = search rules in
@@ -37,6 +37,6 @@ returns-clause-frames c =
 
 pub read_pair-high-requires : goal.read_pair-high-requires
 read_pair-high-requires c =
-    let used = c.used.ensures in
-    let some = c.if-used-eq0.false in
+    let used = c.used-none.ensures in
+    let some = c.if-none.false in
     pair c.self.inside.octets c.self.invariant (grind arith)
