@@ -25,7 +25,7 @@ impl Model for Combination {
     ghost inverse = { λ r. record { rfci = r.rfci; ipti = r.ipti; sizes = r.sizes; allowed = r.allowed } };
 }
 
-// What stands in a table behind the last combination.
+// What stands in a table behind the last combination: zeros throughout, so that a table is made by one fill.
 impl Blank for Combination {
     ghost blank = { blank };
 
@@ -34,7 +34,7 @@ impl Blank for Combination {
             rfci: 0,
             ipti: 0,
             sizes: Row::new(),
-            allowed: true,
+            allowed: false,
         }
     }
 }
