@@ -10,9 +10,11 @@ use checksum::payload_checksum;
 use frames::data_type::DataType;
 use frames::extent::octets_for;
 use frames::frame::DataHeader;
-use frames::octets::Octets;
+use frames::octets::{LONGEST, Octets};
 use frames::refusal::Refusal;
 
+// Written where it is called: a frame that a call gives back is copied once more.
+#[inline(always)]
 fn lay(fields: DataHeader, payload: &[u8]) -> Result<Octets, Refusal>
     requires { (fields.number ≤ 15) × (fields.fqc ≤ 3) × (fields.rfci ≤ 63) }
     ensures { result ≡ fitting (user_frame fields.data_type fields.number fields.fqc fields.rfci payload.now) }
@@ -38,6 +40,12 @@ pub fn build_user_data(header: DataHeader, bits: usize, payload: &[u8]) -> Resul
     if header.number > 15 || header.fqc > 3 || header.rfci > 63 {
         return Err(Refusal::ValueRange);
     }
-    let padded = pad(bits, payload)?;
-    lay(header, padded.as_slice())
+    // whole octets have no padding to clear: they are laid as they come
+    if bits % 8 == 0 {
+        return lay(header, payload);
+    }
+    if payload.len() > LONGEST {
+        return Err(Refusal::TooLong);
+    }
+    lay(header, &pad(bits, payload)[..payload.len()])
 }
