@@ -26,6 +26,7 @@ fn worth(digit: u8) -> u8
     digit - zero
 }
 
+// Written out once more: by a call of the other, a pair takes more steps.
 fn value(digit: u8) -> Option<u8>
     ensures is { result ≡ value_in digit }
     ensures half { IfSome result (λ v. v < 16) }
@@ -33,7 +34,8 @@ fn value(digit: u8) -> Option<u8>
     if !is_digit(digit) {
         return None;
     }
-    Some(worth(digit))
+    let zero = if digit < b'A' { b'0' } else { b'A' - 10 };
+    Some(digit - zero)
 }
 
 // The octet of two digits, the high half first.
