@@ -13,7 +13,7 @@ use frames::frame::DataHeader;
 use frames::octets::{LONGEST, Octets};
 use frames::refusal::Refusal;
 
-// Written where it is called: a frame that a call gives back is copied once more.
+// Both are written where they are called: a frame that a call gives back is copied once more.
 #[inline(always)]
 fn lay(fields: DataHeader, payload: &[u8]) -> Result<Octets, Refusal>
     requires { (fields.number ≤ 15) × (fields.fqc ≤ 3) × (fields.rfci ≤ 63) }
@@ -31,6 +31,7 @@ fn lay(fields: DataHeader, payload: &[u8]) -> Result<Octets, Refusal>
 
 // Of the payload `bits` bits are sent, from the highest bit of the first octet on; what the last octet has after them is not.
 // Refused in this order: a payload not in the least number of octets, a field out of its range, a frame too long.
+#[inline(always)]
 pub fn build_user_data(header: DataHeader, bits: usize, payload: &[u8]) -> Result<Octets, Refusal>
     ensures { result ≡ user_data header.data_type header.number header.fqc header.rfci bits payload.now }
 {
