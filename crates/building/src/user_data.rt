@@ -41,12 +41,13 @@ pub fn build_user_data(header: DataHeader, bits: usize, payload: &[u8]) -> Resul
     if header.number > 15 || header.fqc > 3 || header.rfci > 63 {
         return Err(Refusal::ValueRange);
     }
+    // before any octet is looked at, however many there are
+    if payload.len() > LONGEST {
+        return Err(Refusal::TooLong);
+    }
     // whole octets have no padding to clear: they are laid as they come
     if bits % 8 == 0 {
         return lay(header, payload);
-    }
-    if payload.len() > LONGEST {
-        return Err(Refusal::TooLong);
     }
     lay(header, &pad(bits, payload)[..payload.len()])
 }

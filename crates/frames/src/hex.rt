@@ -76,7 +76,7 @@ fn all_digits(line: &[u8]) -> bool
 fn paired(digits: &[u8]) -> Octets
     requires digits { all_digits digits.now ≡ true }
     requires even { length digits.now % 2 ≡ 0 }
-    requires room { length digits.now / 2 ≤ 512 }
+    requires room { length digits.now / 2 ≤ LONGEST }
     ensures { result ≡ octets_in digits.now }
 {
     let mut octets = Octets::new();

@@ -1,5 +1,5 @@
 -- Combinations as rows, and what holds of the rows of a set.
-use Rattle.std.specs.Prelude.{◌≡◌, ℕ, suc, zero, ◌≤◌, Bool, true, false, cond, not, ◌&&◌, List, [], ◌∷◌, length, ◌==◌, nat_le}
+use Rattle.std.specs.Prelude.{◌≡◌, ℕ, suc, zero, ◌≤◌, Bool, true, cond, not, ◌&&◌, List, [], ◌∷◌, length, ◌==◌, nat_le}
 use Rattle.std.specs.List.{list_all, sum}
 
 -- a combination: its RFCI, its IPTI, the size of each subflow in bits, and whether it is allowed
@@ -11,7 +11,7 @@ pub record Row : Type 0 where
 
 -- what stands in a table behind the last row
 abbrev pub blank : Row
-blank = record { rfci = 0; ipti = 0; sizes = []; allowed = false }
+blank = record { rfci = 0; ipti = 0; sizes = []; allowed = true }
 
 -- the row that is entered is allowed
 abbrev pub entered : ℕ → ℕ → List ℕ → Row
