@@ -1,11 +1,9 @@
 // Padding: the bits after the last one of the payload are sent as 0.
-ghost use Rattle.std.specs.Prelude.{◌≡◌, ◌/◌, ◌%◌, ◌<◌, length};
-ghost use Rattle.frames.specs.Joined.{fitting};
+ghost use Rattle.std.specs.Prelude.{◌≡◌, ◌/◌, ◌%◌, ◌<◌, ◌≤◌, length, take};
 ghost use Rattle.frames.specs.Extent.{octets_for};
 ghost use Rattle.building.specs.UserData.{high_bits, padded};
 
-use frames::octets::Octets;
-use frames::refusal::Refusal;
+use frames::octets::LONGEST;
 
 fn high_bits(count: u32, octet: u8) -> u8
     requires { (0 < count) × (count < 8) }
@@ -15,16 +13,17 @@ fn high_bits(count: u32, octet: u8) -> u8
     octet / unit * unit
 }
 
-// The payload with its padding cleared.
-pub(crate) fn pad(bits: usize, payload: &[u8]) -> Result<Octets, Refusal>
-    requires { length payload.now ≡ octets_for bits }
-    ensures { result ≡ fitting (padded bits payload.now) }
+// The payload with its padding cleared, in the first octets of the result.
+#[inline(always)]
+pub(crate) fn pad(bits: usize, payload: &[u8]) -> [u8; LONGEST]
+    requires octets { length payload.now ≡ octets_for bits }
+    requires over { 0 < bits % 8 }
+    requires room { length payload.now ≤ LONGEST }
+    ensures { take (length payload.now) result ≡ padded bits payload.now }
 {
-    let over = bits % 8;
-    match payload {
-        [whole @ .., last] if over != 0 => {
-            Octets::of_parts(whole, &[high_bits(over as u32, *last)])
-        }
-        _ => Octets::of_slice(payload),
-    }
+    let whole = bits / 8;
+    let mut cells = [0; LONGEST];
+    cells[..whole].copy_from_slice(&payload[..whole]);
+    cells[whole] = high_bits((bits % 8) as u32, payload[whole]);
+    cells
 }

@@ -8,6 +8,7 @@ use frames::mask::{MOST_MARKS, RateMask};
 use frames::number::Number;
 use frames::octets::Octets;
 use frames::procedure::Procedure;
+use frames::row::Row;
 
 // 1 where a mark bars; 0 where it allows, and past the last one.
 fn mark(bars: &[bool], place: usize) -> u8
@@ -24,12 +25,12 @@ fn mark_octet(bars: &[bool]) -> u8
 }
 
 // The count of marks, and as many octets as hold them.
-fn rate_payload(bars: &[bool]) -> Octets
+fn rate_payload(bars: &[bool]) -> Row<u8, 9>
     requires { length bars.now ≤ MOST_MARKS }
     ensures octets { result ≡ rate_payload bars.now }
     ensures few { length result ≤ 9 }
 {
-    let mut payload = Octets::of_slice(&[bars.len() as u8]).unwrap();
+    let mut payload = Row::of_slice(&[bars.len() as u8]).unwrap();
     for eight in bars.chunks(8) {
         payload.push(mark_octet(eight)).unwrap();
     }

@@ -10,9 +10,11 @@ use checksum::payload_checksum;
 use frames::data_type::DataType;
 use frames::extent::octets_for;
 use frames::frame::DataHeader;
-use frames::octets::Octets;
+use frames::octets::{LONGEST, Octets};
 use frames::refusal::Refusal;
 
+// Both are written where they are called: a frame that a call gives back is copied once more.
+#[inline(always)]
 fn lay(fields: DataHeader, payload: &[u8]) -> Result<Octets, Refusal>
     requires { (fields.number ≤ 15) × (fields.fqc ≤ 3) × (fields.rfci ≤ 63) }
     ensures { result ≡ fitting (user_frame fields.data_type fields.number fields.fqc fields.rfci payload.now) }
@@ -29,6 +31,7 @@ fn lay(fields: DataHeader, payload: &[u8]) -> Result<Octets, Refusal>
 
 // Of the payload `bits` bits are sent, from the highest bit of the first octet on; what the last octet has after them is not.
 // Refused in this order: a payload not in the least number of octets, a field out of its range, a frame too long.
+#[inline(always)]
 pub fn build_user_data(header: DataHeader, bits: usize, payload: &[u8]) -> Result<Octets, Refusal>
     ensures { result ≡ user_data header.data_type header.number header.fqc header.rfci bits payload.now }
 {
@@ -38,6 +41,13 @@ pub fn build_user_data(header: DataHeader, bits: usize, payload: &[u8]) -> Resul
     if header.number > 15 || header.fqc > 3 || header.rfci > 63 {
         return Err(Refusal::ValueRange);
     }
-    let padded = pad(bits, payload)?;
-    lay(header, padded.as_slice())
+    // before any octet is looked at, however many there are
+    if payload.len() > LONGEST {
+        return Err(Refusal::TooLong);
+    }
+    // whole octets have no padding to clear: they are laid as they come
+    if bits % 8 == 0 {
+        return lay(header, payload);
+    }
+    lay(header, &pad(bits, payload)[..payload.len()])
 }

@@ -24,7 +24,11 @@ fn all_marks(word: &[u8]) -> bool
 fn bars_of(marks: [u8; MARKS]) -> [bool; MARKS]
     ensures { result ≡ map bars marks }
 {
-    marks.map(|mark| mark == b'1')
+    let mut bars = [false; MARKS];
+    for (place, mark) in marks.iter().enumerate() {
+        bars[place] = *mark == b'1';
+    }
+    bars
 }
 
 // Marks from RFCI 0 on: 1 bars, 0 allows.

@@ -10,7 +10,7 @@ use sets::combination::Combination;
 fn find_sizes(rows: &[Combination], sizes: &[u16]) -> Option<Combination>
     ensures { MatchOption result (NoneOf sizes.now rows.now) (λ c. Holds c.rfci sizes.now rows.now) }
 {
-    rows.iter().copied().find(|row| row.sizes() == sizes)
+    rows.iter().find(|row| row.sizes() == sizes).copied()
 }
 
 impl InForce {

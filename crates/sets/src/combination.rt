@@ -12,20 +12,22 @@ pub struct Combination {
     sizes: Row<u16, MOST_SUBFLOWS>,
     rfci: u8,
     ipti: u8,
-    allowed: bool,
+    // the mark turned round: so the zeros of a blank are allowed
+    barred: bool,
 }
 
 impl Model for Combination {
+    ghost use Rattle.std.specs.Prelude.{not};
     ghost use Rattle.sets.specs.Rows.{Row};
 
     ghost Value = { Row };
 
-    ghost view = { λ c. record { rfci = c.rfci; ipti = c.ipti; sizes = c.sizes; allowed = c.allowed } };
+    ghost view = { λ c. record { rfci = c.rfci; ipti = c.ipti; sizes = c.sizes; allowed = not c.barred } };
 
-    ghost inverse = { λ r. record { rfci = r.rfci; ipti = r.ipti; sizes = r.sizes; allowed = r.allowed } };
+    ghost inverse = { λ r. record { rfci = r.rfci; ipti = r.ipti; sizes = r.sizes; barred = not r.allowed } };
 }
 
-// What stands in a table behind the last combination.
+// What stands in a table behind the last combination: zeros throughout, so that a table is made by one fill.
 impl Blank for Combination {
     ghost blank = { blank };
 
@@ -34,7 +36,7 @@ impl Blank for Combination {
             rfci: 0,
             ipti: 0,
             sizes: Row::new(),
-            allowed: true,
+            barred: false,
         }
     }
 }
@@ -49,7 +51,7 @@ impl Combination {
             rfci,
             ipti,
             sizes: Row::of_slice(sizes).unwrap(),
-            allowed: true,
+            barred: false,
         }
     }
 
@@ -76,12 +78,12 @@ impl Combination {
     pub fn is_allowed(&self) -> bool
         ensures { result ≡ self.now.allowed }
     {
-        self.allowed
+        !self.barred
     }
 
     pub fn allow(&mut self, allowed: bool)
         ensures { self.new ≡ allowed_as allowed self.old }
     {
-        self.allowed = allowed;
+        self.barred = !allowed;
     }
 }
